@@ -84,7 +84,7 @@ pub(crate) fn kind_of(op: Op) -> (Kind, bool)
         Op::Divu => (Kind::Other, false),
         Op::Rem => (Kind::Other, false),
         Op::Remu => (Kind::Other, false),
-        Op::Fence => (Kind::End, false),
+        Op::Fence => (Kind::Other, false),
         Op::Ecall => (Kind::End, false),
         Op::Ebreak => (Kind::End, false),
         Op::LrW => (Kind::End, false),

@@ -31,15 +31,15 @@ impl Model for Code {
     ghost view = { λ c. record { bytes = c.bytes.value; starts = c.starts.value } };
 }
 
-// whether any of 64 bytes differs, all of them read
+// whether any of so many bytes differs, all of them read
 #[inline(always)]
-fn differ(a: &[u8; 4096], b: &[u8], from: usize) -> bool
-    requires within { from + 64 ≤ 4096 }
+fn differ(a: &[u8; 4096], b: &[u8], from: usize, count: usize) -> bool
+    requires within { from + count ≤ 4096 }
     requires page { length b.now ≡ 4096 }
-    ensures { result ≡ false → AreSameIn from (from + 64) a.now b.now }
+    ensures { result ≡ false → AreSameIn from (from + count) a.now b.now }
 {
     let mut all = 0u8;
-    for at in from..from + 64 {
+    for at in from..from + count {
         all |= a[at] ^ b[at];
     }
     all != 0
@@ -175,6 +175,42 @@ impl Code {
         self.put(half, low, high);
     }
 
+    // 8 bytes are what these bytes have there from now on
+    #[inline]
+    fn change_eight(&mut self, lines: &mut Vec<Line>, bytes: &[u8], eight: usize)
+        requires eight { eight < 512 }
+        requires page { length bytes.now ≡ 4096 }
+        requires known { IsKnownPage lines.old.items self.old }
+        ensures known { IsKnownPage lines.new.items self.new }
+        ensures lines { AreLinesKept lines.old.items lines.new.items }
+        ensures bytes { IsWrittenIn (8 * eight) (8 * eight + 8) self.old.bytes self.new.bytes
+            bytes.now }
+        ensures starts { self.new.starts ≡ self.old.starts }
+        ensures capacity { vec_capacity lines.new ≡ vec_capacity lines.old }
+    {
+        for half in 4 * eight..4 * eight + 4 {
+            self.change_half(lines, bytes, half);
+        }
+    }
+
+    // the same, where they differ
+    #[inline(always)]
+    fn match_eight(&mut self, lines: &mut Vec<Line>, bytes: &[u8], eight: usize)
+        requires eight { eight < 512 }
+        requires page { length bytes.now ≡ 4096 }
+        requires known { IsKnownPage lines.old.items self.old }
+        ensures known { IsKnownPage lines.new.items self.new }
+        ensures lines { AreLinesKept lines.old.items lines.new.items }
+        ensures bytes { IsWrittenIn (8 * eight) (8 * eight + 8) self.old.bytes self.new.bytes
+            bytes.now }
+        ensures starts { self.new.starts ≡ self.old.starts }
+        ensures capacity { vec_capacity lines.new ≡ vec_capacity lines.old }
+    {
+        if differ(&self.bytes, bytes, 8 * eight, 8) {
+            self.change_eight(lines, bytes, eight);
+        }
+    }
+
     // 64 bytes are what these bytes have there from now on
     #[inline(never)]
     fn change_part(&mut self, lines: &mut Vec<Line>, bytes: &[u8], part: usize)
@@ -188,8 +224,8 @@ impl Code {
         ensures starts { self.new.starts ≡ self.old.starts }
         ensures capacity { vec_capacity lines.new ≡ vec_capacity lines.old }
     {
-        for half in 32 * part..32 * part + 32 {
-            self.change_half(lines, bytes, half);
+        for eight in 8 * part..8 * part + 8 {
+            self.match_eight(lines, bytes, eight);
         }
     }
 
@@ -206,7 +242,7 @@ impl Code {
         ensures starts { self.new.starts ≡ self.old.starts }
         ensures capacity { vec_capacity lines.new ≡ vec_capacity lines.old }
     {
-        if differ(&self.bytes, bytes, 64 * part) {
+        if differ(&self.bytes, bytes, 64 * part, 64) {
             self.change_part(lines, bytes, part);
         }
     }

@@ -81,6 +81,12 @@ one-first k u next t is = ap (λ (r : Result World Reason). elim r as (λ _. Opt
   | Err reason ↦ None
 ]) is
 
+-- so many steps, and so many more
+pub ran-then : (n m : ℕ) (w v : World) (t : ℕ) → after_steps n w t ≡ Some v
+    → after_steps (n + m) w t ≡ after_steps m v t
+ran-then n m w v t is =
+    same-after t (λ k u. after_steps k u t) (λ k u next one. one-first k u next t one) n m w v is
+
 -- a run goes on from where another led
 pub reaches-then : (before after : World → Type 0) (w : World) (t : ℕ) (r r' : Registers)
     (budget middle left : ℕ) → left ≤ middle → middle ≤ budget
@@ -92,8 +98,7 @@ reaches-then before after w t r r' budget middle left less within goes reached =
     record {
       now = more.now;
       ran = ap (λ n. after_steps n w t) count
-          ∙ same-after t (λ k u. after_steps k u t) (λ k u next is. one-first k u next t is)
-          (budget - middle) (middle - left) w reached.now reached.ran
+          ∙ ran-then (budget - middle) (middle - left) w reached.now t reached.ran
           ∙ more.ran;
       runs = more.runs;
     }

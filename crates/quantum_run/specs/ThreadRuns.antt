@@ -11,6 +11,7 @@ use Rattle.page_store.specs.Store.{Store, joined, IsOwned}
 use Rattle.flat_machine.specs.Step.{step}
 use Rattle.rv_exec.specs.Runs.{Runs}
 use Rattle.flat_machine.specs.Laws.{kept, after_steps}
+use Rattle.quantum_run.specs.Finding.{page_start}
 use Rattle.quantum_run.specs.Shows.{thread_space}
 
 -- the world in which t has these registers and this budget, and the bytes are those of these pages
@@ -70,3 +71,15 @@ IsElsewhere stops (Some thread) = is_stop_at stops thread.registers.pc ≡ false
 abbrev pub StartsElsewhere : (stops : List ℕ) → (count : ℕ) → World → ℕ → Type 0
 StartsElsewhere stops count w t = (made : ℕ) (u : World) → made < count
     → after_steps made w t ≡ Some u → IsElsewhere stops (thread_at u t)
+
+-- ---- in one page
+
+-- None of these addresses is in the page that begins here.
+abbrev pub AreOutside : (stops : List ℕ) → (base : ℕ) → Type 0
+AreOutside stops base = (pc : ℕ) → page_start pc ≡ base → is_stop_at stops pc ≡ false
+
+-- From w on, t went as far as its budget fell, by instructions of the page that begins at base.
+pub record ReachesIn (base : ℕ) (shows : World → Type 0) (w : World) (t : ℕ) (registers : Registers)
+    (budget left : ℕ) : Type 0 where
+  pub reaches : Reaches shows w t registers budget left
+  pub outside : (stops : List ℕ) → AreOutside stops base → StartsElsewhere stops (budget - left) w t

@@ -25,6 +25,20 @@ impl Extent for Whole {
     }
 }
 
+/// The same in a run that stops at addresses.
+pub struct Between;
+
+impl Extent for Between {
+    ghost use Rattle.std.specs.Prelude.{true};
+
+    ghost whole = { true };
+
+    #[inline(always)]
+    fn is_whole() -> bool {
+        true
+    }
+}
+
 /// As much as the budget pays.
 pub struct Part;
 

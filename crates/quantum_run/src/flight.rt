@@ -1,5 +1,7 @@
 // Instructions of a page of code, from landing to landing.
-ghost use Rattle.std.specs.Prelude.{◌≡◌, ◌+◌, ◌<◌, ◌≤◌, ◌%◌, ◌^◌, ◌⊎◌, ℕ, true};
+ghost use Rattle.std.specs.Prelude.{◌≡◌, ◌+◌, ◌-◌, ◌<◌, ◌≤◌, ◌/◌, ◌%◌, ◌^◌, ◌⊎◌, ◌==◌, ℕ};
+ghost use Rattle.std.specs.Prelude.{List, true};
+ghost use Rattle.std.specs.List.{list_any};
 ghost use Rattle.dos_world.specs.World.{World, with_pc};
 ghost use Rattle.rv_exec.specs.Runs.{Runs};
 ghost use Rattle.code_pages.specs.Lines.{AreKnownPages, bytes_of_pages};
@@ -7,9 +9,9 @@ ghost use Rattle.quantum_run.specs.Finding.{page_start};
 ghost use Rattle.quantum_run.specs.Flying.{IsLineOf};
 ghost use Rattle.quantum_run.specs.Knowing.{slot_of};
 ghost use Rattle.quantum_run.specs.Showing.{ShowsKnown, Still, still};
-ghost use Rattle.quantum_run.specs.ThreadRuns.{Reaches};
+ghost use Rattle.quantum_run.specs.ThreadRuns.{AreOutside, Reaches, ReachesIn, StartsElsewhere};
 
-use crate::extent::Whole;
+use crate::extent::{Between, Extent, Whole};
 use crate::lines::{follow, line_in, part_of_run};
 use crate::pages::Pages;
 use crate::slots::{code_place, slot_place};
@@ -61,7 +63,7 @@ fn landing<P: Pages>(memory: &Running<'_, P>, code: &CodePages, base: u32, to: u
 /// Instructions by the lines of one page, as many as are known and need no search, where a fetch
 /// has found the page; each for one of the budget.
 #[inline(always)]
-fn fly_in_page<P: Pages>(
+fn fly_in_page<P: Pages, E: Extent>(
     regs: &mut Regs,
     memory: &mut Running<'_, P>,
     code: &CodePages,
@@ -72,7 +74,7 @@ fn fly_in_page<P: Pages>(
         (still memory.old.tid (P.owners memory.old.pages) memory.old.space.now.entries)
         (P.fixed memory.old.pages) (P.pages memory.old.pages) memory.old.shown memory.old.compared
         (f, bytes_of_pages code.now) t) w t (with_pc regs.old pc) (floor + budget)
-        → Reaches (ShowsKnown
+        → ReachesIn (page_start pc) (ShowsKnown
         (still memory.new.tid (P.owners memory.new.pages) memory.new.space.now.entries)
         (P.fixed memory.new.pages) (P.pages memory.new.pages) memory.new.shown memory.new.compared
         (f, bytes_of_pages code.now) t) w t (with_pc regs.new result.pc) (floor + budget)
@@ -108,7 +110,7 @@ fn fly_in_page<P: Pages>(
                 goes_on: gone.left < budget,
             };
         }
-        let gone = follow::<P, Whole>(regs, memory, lines, base, at, left);
+        let gone = follow::<P, E>(regs, memory, lines, base, at, left);
         if gone.left == left {
             return Leg {
                 pc: base.wrapping_add(gone.to),
@@ -149,7 +151,54 @@ pub fn fly<P: Pages>(
     let mut pc = pc;
     let mut left = budget;
     while left > 0 {
-        let leg = fly_in_page(regs, memory, code, pc, left);
+        let leg = fly_in_page::<P, Whole>(regs, memory, code, pc, left);
+        pc = leg.pc;
+        left = leg.left;
+        if !leg.goes_on {
+            break;
+        }
+    }
+    Flown { pc, left }
+}
+
+/// Whether one of these addresses is in the page of this one.
+fn has_stop_in_page(stops: &[u32], pc: u32) -> bool
+    ensures { result ≡ list_any (λ stop. stop / 4096 == pc / 4096) stops.now }
+{
+    stops.iter().any(|&stop| stop / 4096 == pc / 4096)
+}
+
+/// Instructions by lines, as many as are known and need no search, of pages in which none of these
+/// addresses is; each for one of the budget.
+#[inline(always)]
+pub fn fly_between<P: Pages>(
+    regs: &mut Regs,
+    memory: &mut Running<'_, P>,
+    code: &CodePages,
+    pc: u32,
+    budget: u32,
+    stops: &[u32],
+) -> Flown
+    ensures reaches { (floor : ℕ) (f : Still × P.Fixed) (t : ℕ) (w : World) → Runs (ShowsKnown
+        (still memory.old.tid (P.owners memory.old.pages) memory.old.space.now.entries)
+        (P.fixed memory.old.pages) (P.pages memory.old.pages) memory.old.shown memory.old.compared
+        (f, bytes_of_pages code.now) t) w t (with_pc regs.old pc) (floor + budget)
+        → Reaches (ShowsKnown
+        (still memory.new.tid (P.owners memory.new.pages) memory.new.space.now.entries)
+        (P.fixed memory.new.pages) (P.pages memory.new.pages) memory.new.shown memory.new.compared
+        (f, bytes_of_pages code.now) t) w t (with_pc regs.new result.pc) (floor + budget)
+        (floor + result.left) }
+    ensures elsewhere { (floor : ℕ) (f : Still × P.Fixed) (t : ℕ) (w : World) → Runs (ShowsKnown
+        (still memory.old.tid (P.owners memory.old.pages) memory.old.space.now.entries)
+        (P.fixed memory.old.pages) (P.pages memory.old.pages) memory.old.shown memory.old.compared
+        (f, bytes_of_pages code.now) t) w t (with_pc regs.old pc) (floor + budget)
+        → StartsElsewhere stops.now (floor + budget - (floor + result.left)) w t }
+    ensures within { result.left ≤ budget }
+{
+    let mut pc = pc;
+    let mut left = budget;
+    while left > 0 && !has_stop_in_page(stops, pc) {
+        let leg = fly_in_page::<P, Between>(regs, memory, code, pc, left);
         pc = leg.pc;
         left = leg.left;
         if !leg.goes_on {

@@ -17,7 +17,7 @@ ghost use Rattle.code_pages.specs.declared.kind.Kind.TheVariants.{Below, End, Eq
 ghost use Rattle.code_pages.specs.Lines.{AreRuns, Known, bytes_of_pages};
 ghost use Rattle.quantum_run.specs.Flying.{DoneOrNot, HasLine, IsLineOf, IsRunWithin};
 ghost use Rattle.quantum_run.specs.Showing.{ShowsKnown, Still, still};
-ghost use Rattle.quantum_run.specs.ThreadRuns.{Reaches};
+ghost use Rattle.quantum_run.specs.ThreadRuns.{ReachesIn};
 
 use crate::extent::{Extent, Part};
 use crate::pages::Pages;
@@ -245,6 +245,7 @@ fn other<P: Pages, E: Extent>(
         Op::Lhu => load_quickly(regs, memory, form, LoadOp::Lhu),
         Op::Sb => store_quickly(regs, memory, form, StoreOp::Sb),
         Op::Sh => store_quickly(regs, memory, form, StoreOp::Sh),
+        Op::Fence => Next::On,
         _ => Next::Not,
     }
 }
@@ -361,7 +362,7 @@ pub fn follow<P: Pages, E: Extent>(
         (still memory.old.tid (P.owners memory.old.pages) memory.old.space.now.entries)
         (P.fixed memory.old.pages) (P.pages memory.old.pages) memory.old.shown memory.old.compared
         (f, bytes_of_pages known) t) w t (with_pc regs.old address) (floor + budget)
-        → Reaches (ShowsKnown
+        → ReachesIn base (ShowsKnown
         (still memory.new.tid (P.owners memory.new.pages) memory.new.space.now.entries)
         (P.fixed memory.new.pages) (P.pages memory.new.pages) memory.new.shown memory.new.compared
         (f, bytes_of_pages known) t) w t
@@ -423,7 +424,7 @@ pub fn part_of_run<P: Pages>(
         (still memory.old.tid (P.owners memory.old.pages) memory.old.space.now.entries)
         (P.fixed memory.old.pages) (P.pages memory.old.pages) memory.old.shown memory.old.compared
         (f, bytes_of_pages known) t) w t (with_pc regs.old address) (floor + budget)
-        → Reaches (ShowsKnown
+        → ReachesIn base (ShowsKnown
         (still memory.new.tid (P.owners memory.new.pages) memory.new.space.now.entries)
         (P.fixed memory.new.pages) (P.pages memory.new.pages) memory.new.shown memory.new.compared
         (f, bytes_of_pages known) t) w t

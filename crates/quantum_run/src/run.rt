@@ -13,7 +13,7 @@ ghost use Rattle.flat_machine.specs.Laws.{after_steps};
 ghost use Rattle.quantum_run.specs.ThreadRuns.{store_of};
 ghost use Rattle.quantum_run.specs.Showing.{ShowsBy, ShowsKnown, Still, still};
 
-use crate::flight::fly;
+use crate::flight::{fly, fly_between};
 use crate::lent::Lent;
 use crate::page_places::{Places, write_out};
 use crate::pages::{InPlace, Pages};
@@ -83,8 +83,8 @@ fn go<P: Pages>(
     None
 }
 
-/// The same until the budget is 0, or the next instruction is at one of these addresses: one by
-/// one.
+/// The same until the budget is 0, or the next instruction is at one of these addresses: by lines
+/// in pages of none of them, and else one by one.
 #[inline(always)]
 fn go_up_to<P: Pages>(
     regs: &mut Regs,
@@ -115,20 +115,28 @@ fn go_up_to<P: Pages>(
     let mut left = *budget;
     let mut why = Reason::Service;
     while left > 0 {
+        let flown = fly_between(regs, memory, code, pc, left, stops);
+        pc = flown.pc;
+        left = flown.left;
+        if left == 0 {
+            break;
+        }
         if is_stop_at(stops, pc) {
             regs.set_pc(pc);
             *budget = left;
             return None;
         }
         match slowly(regs, memory, code, pc, &mut why) {
-            Some(next) => pc = next,
+            Some(next) => {
+                pc = next;
+                left -= 1;
+            }
             None => {
                 regs.set_pc(pc);
                 *budget = left;
                 return Some(why);
             }
         }
-        left -= 1;
     }
     regs.set_pc(pc);
     *budget = 0;

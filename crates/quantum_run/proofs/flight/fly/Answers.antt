@@ -48,8 +48,8 @@ loop-left-preserved g c =
       λ floor f t w runs.
           leg-more g c.loop-left.memory c.fly_in_page-leg.new.memory c.loop-left.regs
           c.fly_in_page-leg.new.regs c.args.code.now c.loop-left.pc c.fly_in_page-leg.result.pc
-          c.args.budget c.loop-left.left c.fly_in_page-leg.result.left e.within i.0 e.reaches floor
-          f t w (i.1 floor f t w runs),
+          c.args.budget c.loop-left.left c.fly_in_page-leg.result.left e.within i.0
+          (λ floor f t u ru. (e.reaches floor f t u ru).reaches) floor f t w (i.1 floor f t w runs),
     )
 
 pub returns-then-not-leg-clause-reaches : goal.returns-then-not-leg-clause-reaches
@@ -58,5 +58,5 @@ returns-then-not-leg-clause-reaches g c = λ floor f t w runs.
     let e = c.fly_in_page-leg.ensures in
     leg-more g c.loop-left.memory c.fly_in_page-leg.new.memory c.loop-left.regs
     c.fly_in_page-leg.new.regs c.args.code.now c.loop-left.pc c.fly_in_page-leg.result.pc
-    c.args.budget c.loop-left.left c.fly_in_page-leg.result.left e.within i.0 e.reaches floor
-    f t w (i.1 floor f t w runs)
+    c.args.budget c.loop-left.left c.fly_in_page-leg.result.left e.within i.0
+    (λ floor f t u ru. (e.reaches floor f t u ru).reaches) floor f t w (i.1 floor f t w runs)

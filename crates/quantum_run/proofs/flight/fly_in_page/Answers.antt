@@ -1,12 +1,14 @@
 use Rattle.std.proofs.Common.{ℕ, ◌+◌, ◌≡◌, ◌/◌, ◌%◌, ◌*◌, ◌^◌, ◌∙◌, List, Option, ap, arith, refl}
-use Rattle.std.proofs.Common.{Bool, length, subst, sym, ◌<◌, ◌⊎◌}
-use Rattle.dos_world.specs.World.{World, with_pc}
+use Rattle.std.proofs.Common.{Bool, length, subst, sym, ◌-◌, ◌<◌, ◌≤◌, ◌⊎◌}
+use Rattle.dos_world.specs.World.{World, Registers, with_pc}
 use Rattle.code_pages.specs.Lines.{AreRuns, Known, bytes_of_pages}
 use Rattle.code_pages.specs.declared.line.Line.{Line}
 use Rattle.quantum_run.specs.Flying.{IsLineOf}
 use Rattle.quantum_run.specs.Knowing.{slot_of}
 use Rattle.quantum_run.specs.Showing.{ShowsKnown, Still, still}
-use Rattle.quantum_run.specs.ThreadRuns.{Reaches}
+use Rattle.rv_exec.specs.Runs.{Runs}
+use Rattle.quantum_run.specs.ThreadRuns.{AreOutside, Reaches, ReachesIn, StartsElsewhere}
+use Rattle.quantum_run.proofs.Elsewhere.{none-yet, then-elsewhere}
 use Rattle.quantum_run.specs.declared.slot.Slot.{Slot}
 use Rattle.quantum_run.specs.declared.thread_memory.Running.{Running}
 use Rattle.quantum_run.specs.Knowing.{empty_slot}
@@ -31,9 +33,39 @@ abbrev shown : (g : given.Over) → Running g.row.P.Denot g.P.Pages
 shown g m = ShowsKnown (still m.tid (g.P.Pages.owners m.pages) m.space.now.entries)
     (g.P.Pages.fixed m.pages) (g.P.Pages.pages m.pages) m.shown m.compared
 
+-- what the lines of a run led to, behind what came before
+run-more : (g : given.Over) (before after : Running g.row.P.Denot g.P.Pages) (r r' : Registers)
+    (code : Known) (base pc to budget left more : ℕ) → more ≤ left → left ≤ budget
+    → ((floor : ℕ) (f : Still × g.P.Pages.Fixed) (t : ℕ) (w : World)
+    → Runs (shown g before (f, bytes_of_pages code) t) w t (with_pc r pc) (floor + left)
+    → ReachesIn base (shown g after (f, bytes_of_pages code) t) w t (with_pc r' to) (floor + left)
+    (floor + more))
+    → (floor : ℕ) (f : Still × g.P.Pages.Fixed) (t : ℕ) (w : World)
+    → Reaches (shown g before (f, bytes_of_pages code) t) w t (with_pc r pc) (floor + budget)
+    (floor + left) × ((stops : List ℕ) → AreOutside stops base
+    → StartsElsewhere stops (floor + budget - (floor + left)) w t)
+    → ReachesIn base (shown g after (f, bytes_of_pages code) t) w t (with_pc r' to)
+    (floor + budget) (floor + more)
+run-more g before after r r' code base pc to budget left more less within goes floor f t w reached =
+    record {
+      reaches =
+          reaches-then (shown g before (f, bytes_of_pages code) t)
+          (shown g after (f, bytes_of_pages code) t) w t (with_pc r pc) (with_pc r' to)
+          (floor + budget) (floor + left) (floor + more) (omega (arith, less))
+          (omega (arith, within)) (λ u ru. (goes floor f t u ru).reaches) reached.0;
+      outside = λ stops out.
+          then-elsewhere stops (shown g before (f, bytes_of_pages code) t) w t (with_pc r pc)
+          (floor + budget) (floor + left) (floor + more) (omega (arith, less))
+          (omega (arith, within)) reached.0
+          ((goes floor f t reached.0.now reached.0.runs).outside stops out) (reached.1 stops out);
+    }
+
 pub returns-then-not-is_shown_at-clause-reaches : goal.returns-then-not-is_shown_at-clause-reaches
-returns-then-not-is_shown_at-clause-reaches g c = λ floor f t w runs.
-    reaches-none _ w t (with_pc c.args.regs.now c.args.pc) (floor + c.args.budget) runs
+returns-then-not-is_shown_at-clause-reaches g c = λ floor f t w runs. record {
+  reaches =
+      reaches-none _ w t (with_pc c.args.regs.now c.args.pc) (floor + c.args.budget) runs;
+  outside = λ stops out. none-yet stops _ w t (omega arith);
+}
 
 pub loop-lines-init : goal.loop-lines-init
 loop-lines-init g c =
@@ -42,10 +74,12 @@ loop-lines-init g c =
       omega arith,
       refl,
       refl,
-      λ floor f t w runs.
-          subst (λ k. Reaches (shown g c.args.memory.now (f, bytes_of_pages c.args.code.now) t) w t
-          (with_pc c.args.regs.now k) (floor + c.args.budget) (floor + c.args.budget)) here
-          (reaches-none _ w t (with_pc c.args.regs.now c.args.pc) (floor + c.args.budget) runs),
+      λ floor f t w runs. (
+        subst (λ k. Reaches (shown g c.args.memory.now (f, bytes_of_pages c.args.code.now) t) w t
+            (with_pc c.args.regs.now k) (floor + c.args.budget) (floor + c.args.budget)) here
+            (reaches-none _ w t (with_pc c.args.regs.now c.args.pc) (floor + c.args.budget) runs),
+        λ stops out. none-yet stops _ w t (omega arith),
+      ),
     )
 
 pub landing-at-requires : goal.landing-at-requires
@@ -107,20 +141,17 @@ loop-lines-preserved g c =
       c.follow-gone.ensures.same.0 ∙ i.1,
       c.follow-gone.ensures.same.1 ∙ i.2,
       λ floor f t w runs.
-          reaches-then (shown g m (f, bytes_of_pages c.args.code.now) t)
-          (shown g n (f, bytes_of_pages c.args.code.now) t) w t
-          (with_pc c.loop-lines.regs a) (with_pc c.follow-gone.new.regs
-          ((c.args.pc / 4096 * 4096 + c.follow-gone.result.to) % 2 ^ 32))
-          (floor + c.args.budget) (floor + c.loop-lines.left)
-          (floor + c.follow-gone.result.left)
-          (omega (arith, c.follow-gone.ensures.within)) (omega (arith, i.0))
-          (λ u ru. c.follow-gone.ensures.reaches c.args.code.now a floor f t u landed ru)
-          (i.3 floor f t w runs),
+          let x = run-more g m n c.loop-lines.regs c.follow-gone.new.regs c.args.code.now
+          (c.args.pc / 4096 * 4096) a ((c.args.pc / 4096 * 4096 + c.follow-gone.result.to) % 2 ^ 32)
+          c.args.budget c.loop-lines.left c.follow-gone.result.left c.follow-gone.ensures.within
+          i.0 (λ floor f t u ru. c.follow-gone.ensures.reaches c.args.code.now a floor f t u landed
+          ru) floor f t w (i.3 floor f t w runs) in (x.reaches, x.outside),
     )
 
 pub returns-then-at-eq0-clause-reaches : goal.returns-then-at-eq0-clause-reaches
-returns-then-at-eq0-clause-reaches g c = λ floor f t w runs. c.loop-lines.invariant.3 floor f t w
-    runs
+returns-then-at-eq0-clause-reaches g c = λ floor f t w runs.
+    let r = c.loop-lines.invariant.3 floor f t w runs in
+    record { reaches = r.0; outside = r.1 }
 
 pub returns-then-left-from-clause-reaches : goal.returns-then-left-from-clause-reaches
 returns-then-left-from-clause-reaches g c = λ floor f t w runs.
@@ -131,15 +162,12 @@ returns-then-left-from-clause-reaches g c = λ floor f t w runs.
     let landed = landed-in m.shown m.compared c.args.code.now c.lines-lines.result.now
     (c.args.pc / 4096 * 4096) a c.landing-at.result c.lines-lines.ensures.lines
     c.landing-at.ensures c.if-at-eq0.false in
-    reaches-then (shown g m (f, bytes_of_pages c.args.code.now) t)
-    (shown g n (f, bytes_of_pages c.args.code.now) t) w t
-    (with_pc c.loop-lines.regs a) (with_pc c.part_of_run-gone.new.regs
-    ((c.args.pc / 4096 * 4096 + c.part_of_run-gone.result.to) % 2 ^ 32))
-    (floor + c.args.budget) (floor + c.loop-lines.left)
-    (floor + c.part_of_run-gone.result.left)
-    (omega (arith, c.part_of_run-gone.ensures.within)) (omega (arith, i.0))
-    (λ u ru. c.part_of_run-gone.ensures.reaches c.args.code.now a floor f t u landed ru)
-    (i.3 floor f t w runs)
+    run-more g m n c.loop-lines.regs c.part_of_run-gone.new.regs c.args.code.now
+    (c.args.pc / 4096 * 4096) a ((c.args.pc / 4096 * 4096 + c.part_of_run-gone.result.to) % 2 ^ 32)
+    c.args.budget c.loop-lines.left c.part_of_run-gone.result.left
+    c.part_of_run-gone.ensures.within i.0
+    (λ floor f t u ru. c.part_of_run-gone.ensures.reaches c.args.code.now a floor f t u landed ru)
+    floor f t w (i.3 floor f t w runs)
 
 pub returns-then-gone-left-clause-reaches : goal.returns-then-gone-left-clause-reaches
 returns-then-gone-left-clause-reaches g c = λ floor f t w runs.
@@ -147,21 +175,20 @@ returns-then-gone-left-clause-reaches g c = λ floor f t w runs.
     let m = c.loop-lines.memory in
     let n = c.follow-gone.new.memory in
     let a = (c.args.pc / 4096 * 4096 + c.loop-lines.to) % 2 ^ 32 in
+    let to = (c.args.pc / 4096 * 4096 + c.follow-gone.result.to) % 2 ^ 32 in
     let landed = landed-in m.shown m.compared c.args.code.now c.lines-lines.result.now
     (c.args.pc / 4096 * 4096) a c.landing-at.result c.lines-lines.ensures.lines
     c.landing-at.ensures c.if-at-eq0.false in
-    subst (λ k. Reaches (shown g n (f, bytes_of_pages c.args.code.now) t) w t
-    (with_pc c.follow-gone.new.regs
-    ((c.args.pc / 4096 * 4096 + c.follow-gone.result.to) % 2 ^ 32)) (floor + c.args.budget)
-    (floor + k)) c.if-gone-left.true
-    (reaches-then (shown g m (f, bytes_of_pages c.args.code.now) t)
-    (shown g n (f, bytes_of_pages c.args.code.now) t) w t
-    (with_pc c.loop-lines.regs a) (with_pc c.follow-gone.new.regs
-    ((c.args.pc / 4096 * 4096 + c.follow-gone.result.to) % 2 ^ 32))
-    (floor + c.args.budget) (floor + c.loop-lines.left) (floor + c.follow-gone.result.left)
-    (omega (arith, c.follow-gone.ensures.within)) (omega (arith, i.0))
-    (λ u ru. c.follow-gone.ensures.reaches c.args.code.now a floor f t u landed ru)
-    (i.3 floor f t w runs))
+    subst (λ k. ReachesIn (c.args.pc / 4096 * 4096)
+    (shown g n (f, bytes_of_pages c.args.code.now) t) w t (with_pc c.follow-gone.new.regs to)
+    (floor + c.args.budget) (floor + k)) c.if-gone-left.true
+    (run-more g m n c.loop-lines.regs c.follow-gone.new.regs c.args.code.now
+    (c.args.pc / 4096 * 4096) a to c.args.budget c.loop-lines.left c.follow-gone.result.left
+    c.follow-gone.ensures.within i.0
+    (λ floor f t u ru. c.follow-gone.ensures.reaches c.args.code.now a floor f t u landed ru)
+    floor f t w (i.3 floor f t w runs))
 
 pub returns-clause-reaches : goal.returns-clause-reaches
-returns-clause-reaches g c = λ floor f t w runs. c.loop-lines.invariant.3 floor f t w runs
+returns-clause-reaches g c = λ floor f t w runs.
+    let r = c.loop-lines.invariant.3 floor f t w runs in
+    record { reaches = r.0; outside = r.1 }

@@ -12,7 +12,8 @@ use Rattle.code_pages.specs.declared.line.Line.{Line}
 use Rattle.code_pages.proofs.KnownLaws.{live-line}
 use Rattle.quantum_run.specs.Flying.{DoneOrNot, IsLineOf}
 use Rattle.quantum_run.specs.Showing.{ShowsKnown, Still, still}
-use Rattle.quantum_run.specs.ThreadRuns.{Reaches}
+use Rattle.quantum_run.specs.ThreadRuns.{Reaches, StartsElsewhere}
+use Rattle.quantum_run.proofs.Elsewhere.{none-yet, one-elsewhere}
 use Rattle.quantum_run.specs.declared.thread_memory.Running.{Running}
 use Rattle.quantum_run.proofs.RunSteps.{reaches-none}
 use Rattle.quantum_run.proofs.Walking.{Some-line, got-line, got-within, goes-behind, line-done}
@@ -58,6 +59,7 @@ loop-line-init g c =
                 runs)),
             inr (subst (λ k. IsLineOf c.args.memory.now.shown c.args.memory.now.compared known
                 c.args.lines.now c.args.base k c.args.from) p of),
+            λ stops out. none-yet stops _ w t (omega arith),
           ),
     )
 
@@ -137,6 +139,11 @@ loop-line-preserved g c =
             subst (λ k. (next.next.kind ≡ End) ⊎ IsLineOf c.args.memory.now.shown
                 c.args.memory.now.compared known lines base ((base + next.next.offset) % 2 ^ 32) k)
                 (sym (add-one at)) on.1,
+            λ stops out.
+                subst (λ k. StartsElsewhere stops (floor + c.args.budget - k) w t) count
+                (one-elsewhere stops (shown g m (f, bytes_of_pages known) t) w t
+                (with_pc c.loop-line.regs pc) (floor + c.args.budget) (floor + more) some within
+                (out pc line-of.page) r.0 (r.2 stops out)),
           ),
     )
 
@@ -153,11 +160,18 @@ returns-then-is_over-clause-reaches g c = λ known address floor f t w of runs.
     ∙ ap (λ (x : Line). (base + x.offset) % 2 ^ 32) same) in
     let none : c.args.from + c.args.budget - at ≡ 0 =
     omega (arith, i.6, c.is_over.ensures.over c.if-is_over.true) in
-    subst (λ k. Reaches (shown g c.loop-line.memory (f, bytes_of_pages known) t) w t
-    (with_pc c.loop-line.regs k) (floor + c.args.budget) (floor + 0)) pc-is
-    (subst (λ k. Reaches (shown g c.loop-line.memory (f, bytes_of_pages known) t) w t
-    (with_pc c.loop-line.regs ((base + here.line.offset) % 2 ^ 32)) (floor + c.args.budget)
-    (floor + k)) none (i.9 known address floor f t w of runs).0)
+    let r = i.9 known address floor f t w of runs in
+    record {
+      reaches =
+          subst (λ k. Reaches (shown g c.loop-line.memory (f, bytes_of_pages known) t) w t
+          (with_pc c.loop-line.regs k) (floor + c.args.budget) (floor + 0)) pc-is
+          (subst (λ k. Reaches (shown g c.loop-line.memory (f, bytes_of_pages known) t) w t
+          (with_pc c.loop-line.regs ((base + here.line.offset) % 2 ^ 32))
+          (floor + c.args.budget) (floor + k)) none r.0);
+      outside = λ stops out.
+          subst (λ k. StartsElsewhere stops (floor + c.args.budget - (floor + k)) w t) none
+          (r.2 stops out);
+    }
 
 pub returns-in-Short-clause-reaches : goal.returns-in-Short-clause-reaches
 returns-in-Short-clause-reaches g c = λ known address floor f t w of runs.
@@ -210,10 +224,18 @@ returns-in-Short-clause-reaches g c = λ known address floor f t w of runs.
     some within f t w line-of r.0 in
     let to : (pc + 2) % 2 ^ 32 ≡ (base + (c.from-in-Short.result + 2) % 2 ^ 32) % 2 ^ 32 =
     omega (arith, pc-is, c.from-in-Short.ensures) in
-    subst (λ k. Reaches (shown g n (f, bytes_of_pages known) t) w t (with_pc r' k)
-    (floor + c.args.budget) (floor + (more - 1))) to
-    (subst (λ k. Reaches (shown g n (f, bytes_of_pages known) t) w t
-    (arrived_by here.line.size r' pc Short) (floor + c.args.budget) k) less reached)
+    record {
+      reaches =
+          subst (λ k. Reaches (shown g n (f, bytes_of_pages known) t) w t (with_pc r' k)
+          (floor + c.args.budget) (floor + (more - 1))) to
+          (subst (λ k. Reaches (shown g n (f, bytes_of_pages known) t) w t
+          (arrived_by here.line.size r' pc Short) (floor + c.args.budget) k) less reached);
+      outside = λ stops out.
+          subst (λ k. StartsElsewhere stops (floor + c.args.budget - k) w t) less
+          (one-elsewhere stops (shown g m (f, bytes_of_pages known) t) w t
+          (with_pc c.loop-line.regs pc) (floor + c.args.budget) (floor + more) some within
+          (out pc line-of.page) r.0 (r.2 stops out));
+    }
 
 pub returns-in-To-clause-reaches : goal.returns-in-To-clause-reaches
 returns-in-To-clause-reaches g c = λ known address floor f t w of runs.
@@ -270,10 +292,19 @@ returns-in-To-clause-reaches g c = λ known address floor f t w of runs.
     m.shown_are
     done (λ q. cc) i.2 here.is live i.7 i.8
     some within f t w line-of r.0 in
-    subst (λ k. Reaches (shown g n (f, bytes_of_pages known) t) w t (with_pc r' k)
-    (floor + c.args.budget) (floor + (more - 1))) (sym c.distance.ensures)
-    (subst (λ k. Reaches (shown g n (f, bytes_of_pages known) t) w t
-    (arrived_by here.line.size r' pc (To c.in-To.target)) (floor + c.args.budget) k) less reached)
+    record {
+      reaches =
+          subst (λ k. Reaches (shown g n (f, bytes_of_pages known) t) w t (with_pc r' k)
+          (floor + c.args.budget) (floor + (more - 1))) (sym c.distance.ensures)
+          (subst (λ k. Reaches (shown g n (f, bytes_of_pages known) t) w t
+          (arrived_by here.line.size r' pc (To c.in-To.target)) (floor + c.args.budget) k) less
+          reached);
+      outside = λ stops out.
+          subst (λ k. StartsElsewhere stops (floor + c.args.budget - k) w t) less
+          (one-elsewhere stops (shown g m (f, bytes_of_pages known) t) w t
+          (with_pc c.loop-line.regs pc) (floor + c.args.budget) (floor + more) some within
+          (out pc line-of.page) r.0 (r.2 stops out));
+    }
 
 pub returns-in-Not-clause-reaches : goal.returns-in-Not-clause-reaches
 returns-in-Not-clause-reaches g c = λ known address floor f t w of runs.
@@ -306,6 +337,10 @@ returns-in-Not-clause-reaches g c = λ known address floor f t w of runs.
     line-not-done (shown g m) (shown g n) here.line.size pc c.loop-line.regs r'
     (effect_of_form here.line.form) (floor + c.args.budget) (floor + more) done
     (f, bytes_of_pages known) t w r.0 in
-    subst (λ k. Reaches (shown g n (f, bytes_of_pages known) t) w t (with_pc r' k)
-    (floor + c.args.budget) (floor + more)) (sym (ap (λ k. (base + k) % 2 ^ 32)
-    c.from-in-Not.ensures ∙ pc-is)) reached
+    record {
+      reaches =
+          subst (λ k. Reaches (shown g n (f, bytes_of_pages known) t) w t (with_pc r' k)
+          (floor + c.args.budget) (floor + more)) (sym (ap (λ k. (base + k) % 2 ^ 32)
+          c.from-in-Not.ensures ∙ pc-is)) reached;
+      outside = r.2;
+    }

@@ -1,10 +1,10 @@
-use Rattle.std.proofs.Common.{ℕ, length, true, ◌+◌, ◌-◌, ◌<◌, ◌≤◌, ◌≡◌, ◌⊎◌, ◌%◌, ◌^◌}
+use Rattle.std.proofs.Common.{ℕ, List, length, true, ◌+◌, ◌-◌, ◌<◌, ◌≤◌, ◌≡◌, ◌⊎◌, ◌%◌, ◌^◌}
 use Rattle.dos_world.specs.World.{World, with_pc}
 use Rattle.rv_exec.specs.Runs.{Runs}
 use Rattle.code_pages.specs.Lines.{Known, bytes_of_pages}
 use Rattle.code_pages.specs.declared.kind.Kind.TheVariants.{End}
 use Rattle.quantum_run.specs.Flying.{HasLine, IsLineOf}
-use Rattle.quantum_run.specs.ThreadRuns.{Reaches}
+use Rattle.quantum_run.specs.ThreadRuns.{AreOutside, Reaches, StartsElsewhere}
 use Rattle.quantum_run.specs.Showing.{ShowsKnown, Still, still}
 use Rattle.quantum_run.proofs.lines.follow.Given as goal
 
@@ -29,7 +29,9 @@ invariant-loop-line g l =
     (with_pc l.regs ((l.base + here.line.offset) % 2 ^ 32)) (floor + l.budget)
     (floor + (l.end - l.at))
     × ((here.line.kind ≡ End) ⊎ IsLineOf l.fn.memory.shown l.fn.memory.compared known l.lines
-    l.base ((l.base + here.line.offset) % 2 ^ 32) l.at))
+    l.base ((l.base + here.line.offset) % 2 ^ 32) l.at)
+    × ((stops : List ℕ) → AreOutside stops l.base
+    → StartsElsewhere stops (floor + l.budget - (floor + (l.end - l.at))) w t))
 
 abbrev pub decreases-loop-line : goal.decreases-loop-line
 decreases-loop-line g l = l.end - l.at

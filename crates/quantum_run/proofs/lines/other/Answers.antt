@@ -1,7 +1,7 @@
 use Rattle.std.proofs.Common.{ℕ, List, Option, refl, true, false}
 use Rattle.dos_world.specs.World.{World}
 use Rattle.dos_world.specs.declared.Reason.TheVariants.{Service}
-use Rattle.rv_isa.specs.declared.Instr.TheVariants.{Imm, Load, Reg, Shift, Store, Upper}
+use Rattle.rv_isa.specs.declared.Instr.TheVariants.{Fence, Imm, Load, Reg, Shift, Store, Upper}
 use Rattle.rv_isa.specs.declared.ImmOp.TheVariants as imms
 use Rattle.rv_isa.specs.declared.LoadOp.TheVariants as loads
 use Rattle.rv_isa.specs.declared.RegOp.TheVariants as regs
@@ -9,7 +9,8 @@ use Rattle.rv_isa.specs.declared.ShiftOp.TheVariants as shifts
 use Rattle.rv_isa.specs.declared.StoreOp.TheVariants as stores
 use Rattle.rv_form.specs.Forms.{instr_of}
 use Rattle.rv_form.specs.declared.form.Op.TheVariants as op
-use Rattle.flat_machine.specs.Effect.{unsigned}
+use Rattle.flat_machine.specs.Effect.{effect, unsigned}
+use Rattle.rv_exec.specs.declared.next.Next.TheVariants.{On}
 use Rattle.quantum_run.specs.Showing.{ShowsKnown, Still, still}
 use Rattle.quantum_run.specs.declared.thread_memory.Running.{Running}
 use Rattle.quantum_run.proofs.Flying.{by-op, by-registers}
@@ -287,3 +288,10 @@ returns-in-Sh-clause-done g c =
     (Store stores.Sh c.args.form.now.rs1 c.args.form.now.rs2 c.args.form.now.imm) 4 refl
     c.args.pc c.args.regs.now c.args.regs.now c.store_quickly-in-Sh.result
     (λ size. c.store_quickly-in-Sh.ensures.done size c.args.pc)
+
+pub returns-in-Fence-clause-done : goal.returns-in-Fence-clause-done
+unfolding instr_of effect
+returns-in-Fence-clause-done g c =
+    by-registers (shown g c.args.memory.now) c.args.form.now op.Fence c.in-Fence.is
+    (Fence false 0 0 0) 4 refl c.args.pc c.args.regs.now c.args.regs.now On
+    (λ size. (refl, refl))

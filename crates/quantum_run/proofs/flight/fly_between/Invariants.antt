@@ -1,0 +1,26 @@
+use Rattle.std.proofs.Common.{ℕ, ◌+◌, ◌-◌, ◌≤◌}
+use Rattle.dos_world.specs.World.{World, with_pc}
+use Rattle.rv_exec.specs.Runs.{Runs}
+use Rattle.code_pages.specs.Lines.{bytes_of_pages}
+use Rattle.quantum_run.specs.ThreadRuns.{Reaches, StartsElsewhere}
+use Rattle.quantum_run.specs.Showing.{ShowsKnown, Still, still}
+use Rattle.quantum_run.proofs.flight.fly_between.Given as goal
+
+abbrev pub invariant-loop-left : goal.invariant-loop-left
+invariant-loop-left g l =
+    (l.left ≤ l.budget)
+    × ((floor : ℕ) (f : Still × g.P.Pages.Fixed) (t : ℕ) (w : World)
+    → Runs (ShowsKnown
+    (still l.fn.memory.tid (g.P.Pages.owners l.fn.memory.pages) l.fn.memory.space.now.entries)
+    (g.P.Pages.fixed l.fn.memory.pages) (g.P.Pages.pages l.fn.memory.pages) l.fn.memory.shown
+    l.fn.memory.compared (f, bytes_of_pages l.code) t) w t (with_pc l.fn.regs l.fn.pc)
+    (floor + l.budget)
+    → Reaches (ShowsKnown
+    (still l.memory.tid (g.P.Pages.owners l.memory.pages) l.memory.space.now.entries)
+    (g.P.Pages.fixed l.memory.pages) (g.P.Pages.pages l.memory.pages) l.memory.shown
+    l.memory.compared (f, bytes_of_pages l.code) t) w t (with_pc l.regs l.pc)
+    (floor + l.budget) (floor + l.left)
+    × StartsElsewhere l.stops (floor + l.budget - (floor + l.left)) w t)
+
+abbrev pub decreases-loop-left : goal.decreases-loop-left
+decreases-loop-left g l = l.left
