@@ -2,7 +2,7 @@
 use Rattle.std.proofs.Common.{ℕ, ◌<◌, ◌≤◌, ◌≡◌, ◌≢◌, refl, sym, List, [], ◌∷◌, set}
 use Rattle.std.proofs.Common.{Bool, true, false, replicate, arith, subst, eq-eqb, ◌⊎◌, inl, inr}
 use Rattle.std.proofs.Common.{All}
-use Rattle.std.proofs.Common.{length, ◌∙◌, ap, eqb, ◌+◌, ◌/◌, slice_get, Option, Some}
+use Rattle.std.proofs.Common.{length, ◌∙◌, ap, eqb, ◌+◌, ◌/◌, ◌%◌, slice_get, Option, Some}
 use Rattle.std.proofs.lemmas.Bool.{cases_lt}
 use Rattle.std.proofs.lemmas.Bool.Decides.{eqb_tells}
 use Rattle.std.proofs.lemmas.List.{get_or_past, get_or-set_other, get_or-set_same, get_or_default}
@@ -13,7 +13,7 @@ use Rattle.std.proofs.lemmas.List.Elements.{All-from_get_or}
 use Rattle.quantum_run.specs.declared.slot.Slot.{Slot}
 use Rattle.quantum_run.specs.Finding.{no_start}
 use Rattle.quantum_run.specs.Knowing.{AreFewer, AreHidden, FetchesAreApart, IsNoCode}
-use Rattle.quantum_run.specs.Knowing.{empty_slot}
+use Rattle.quantum_run.specs.Knowing.{SlotsAreMarked, empty_slot}
 use Rattle.quantum_run.proofs.Comparing.{got-set-other, got-set-same}
 
 -- no slot has this frame
@@ -170,3 +170,54 @@ fewer-more old compared at within fewer k is = by_place (eqb_tells k at)
         absurd (not-true (sym (got-set-same compared at false within)
         ∙ sym (ap (λ (i : ℕ). slice_get (set compared at false) i) here.1) ∙ is))
     by_place (inr other) = fewer k (sym (got-set-other compared at k false other.1) ∙ is)
+
+-- ---- marks
+
+-- A frame whose mark isn't set is no slot's.
+pub none-marked : (slots : List Slot) (marks : List Bool) (frame : ℕ) → SlotsAreMarked slots marks
+    → slice_index_or marks (frame % 64) false ≡ false → IsNoCode slots frame
+none-marked slots marks frame marked none k d h small same =
+    not-both (sym (marked k d h small)
+    ∙ ap (λ (f : ℕ). slice_index_or marks (f % 64) false) same ∙ none)
+  where
+    not-both : true ≡ false → ⊥
+    not-both h = cc
+
+-- one more mark set
+still-marked : (marks : List Bool) (place k : ℕ) → place < length marks
+    → slice_index_or marks k false ≡ true → slice_index_or (set marks place true) k false ≡ true
+still-marked marks place k within is = by_place (eqb_tells k place)
+  where
+    by_place : ((eqb k place ≡ true) × (k ≡ place)) ⊎ ((eqb k place ≡ false) × (k ≢ place))
+        → slice_index_or (set marks place true) k false ≡ true
+    by_place (inl here) =
+        ap (λ (i : ℕ). slice_index_or (set marks place true) i false) here.1
+        ∙ get_or-set_same marks place true false within
+    by_place (inr other) = get_or-set_other marks place k true false other.1 ∙ is
+
+-- one more slot, whose frame is marked
+pub marked-more : (slots : List Slot) (marks : List Bool) (place mark : ℕ) (slot : Slot)
+    → slot.frame % 64 ≡ mark → mark < length marks → SlotsAreMarked slots marks
+    → SlotsAreMarked (set slots place slot) (set marks mark true)
+marked-more slots marks place mark slot is within marked =
+    let P : Slot → Type 0 =
+    λ (s : Slot). s.start < no_start
+    → slice_index_or (set marks mark true) (s.frame % 64) false ≡ true in
+    All-set P slots place slot
+    (λ small. ap (λ (i : ℕ). slice_index_or (set marks mark true) i false) is
+    ∙ get_or-set_same marks mark true false within)
+    (λ k d h small. still-marked marks mark ((slice_index_or slots k d).frame % 64) within
+    (marked k d h small))
+
+pub marked-hidden : (slots new : List Slot) (marks : List Bool) → AreHidden slots new
+    → SlotsAreMarked slots marks → SlotsAreMarked new marks
+marked-hidden slots new marks hidden marked =
+    hidden-slot (λ (s : Slot). s.start < no_start
+    → slice_index_or marks (s.frame % 64) false ≡ true) slots new
+    (λ begins. absurd (omega (arith, begins))) hidden marked
+
+pub marked-none : (marks : List Bool) (n : ℕ) → SlotsAreMarked (replicate n empty_slot) marks
+marked-none marks n =
+    All-replicate (λ (slot : Slot). slot.start < no_start
+    → slice_index_or marks (slot.frame % 64) false ≡ true) n empty_slot
+    (λ h. absurd (omega (arith, h)))

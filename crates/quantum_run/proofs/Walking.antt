@@ -413,3 +413,25 @@ line-not-done old new size pc r r' e budget more done f t w reached =
     subst (λ (x : Registers). Reaches (new f t) w t x budget more) (sym done.0)
     (reaches-shown (old f t) (new f t) w t (with_pc r pc) budget more (λ u s. done.1 f t u s)
     reached)
+
+-- Where a run of lines led nowhere, its first line is that of the code there.
+pub stays-there : (shown shown' : List Slot) (compared compared' : List Bool) (known : Known)
+    (lines : List Line) (base to gone result at : ℕ) (line : Line) → 0 < at → shown' ≡ shown
+    → compared' ≡ compared → lines ≡ known.lines
+    → IsLineOf shown compared known known.lines base ((base + to) % 2 ^ 32) at
+    → slice_get lines at ≡ Some line → gone ≡ line.offset → result ≡ (base + gone) % 2 ^ 32
+    → IsLineOf shown' compared' known known.lines (page_start result) result at
+stays-there shown shown' compared compared' known lines base to gone result at line some same-shown
+    same-compared are of is stands-at-it led =
+    let a : ℕ = (base + to) % 2 ^ 32 in
+    let there : slice_get known.lines at ≡ Some line =
+    ap (λ (xs : List Line). slice_get xs at) (sym are) ∙ is in
+    let e : a ≡ base + line.offset = stands shown compared known known.lines base a at line some of
+    there in
+    let same : a ≡ result = omega (arith, e, stands-at-it, led, of.small) in
+    subst (λ (xs : List Slot). IsLineOf xs compared' known known.lines (page_start result) result
+    at) (sym same-shown)
+    (subst (λ (xs : List Bool). IsLineOf shown xs known known.lines (page_start result) result at)
+    (sym same-compared)
+    (subst (λ k. IsLineOf shown compared known known.lines (page_start k) k at) same
+    (subst (λ k. IsLineOf shown compared known known.lines k a at) (sym of.page) of)))

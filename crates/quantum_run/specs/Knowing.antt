@@ -1,7 +1,7 @@
 -- Which pages of code are known, while a thread runs: those that a fetch has found, and of them the
 -- blocks of 256 bytes that have been compared. This project's own rules.
 use Rattle.std.specs.Prelude.{ℕ, ◌≡◌, ◌≢◌, ◌+◌, ◌*◌, ◌⊎◌, ◌<◌, ◌≤◌, ◌/◌, ◌%◌, ◌^◌, Bool, true, List}
-use Rattle.std.specs.Prelude.{All, Option, Some, slice_get, slice_index, slice_index_or}
+use Rattle.std.specs.Prelude.{All, Option, Some, false, slice_get, slice_index, slice_index_or}
 use Rattle.page_store.specs.Store.{whole}
 use Rattle.code_pages.specs.Lines.{IsStartIn, Known}
 use Rattle.quantum_run.specs.declared.slot.Slot.{Slot}
@@ -60,6 +60,11 @@ KeepsRight shown compared pages new_shown new_compared new_pages =
 -- No fetch has found this frame.
 abbrev pub IsNoCode : List Slot → ℕ → Type 0
 IsNoCode shown frame = All (λ slot. slot.start < no_start → slot.frame ≢ frame) shown
+
+-- Each frame of a slot has its mark set, of 64.
+abbrev pub SlotsAreMarked : List Slot → (marks : List Bool) → Type 0
+SlotsAreMarked slots marks =
+    All (λ slot. slot.start < no_start → slice_index_or marks (slot.frame % 64) false ≡ true) slots
 
 -- No frame that a fetch has found is found again for stores without a search.
 abbrev pub FetchesAreApart : (shown stored : List Slot) → Type 0

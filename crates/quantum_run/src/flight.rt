@@ -19,11 +19,13 @@ use crate::thread_memory::Running;
 use code_pages::CodePages;
 use dos_world::Regs;
 
-/// Where instructions led, and what is left of the budget.
+/// Where instructions led, what is left of the budget, and the line there, which needs a search or
+/// stops; 0 where none is known.
 #[derive(Drop)]
 pub struct Flown {
     pub pc: u32,
     pub left: u32,
+    pub at: usize,
 }
 
 /// The same for the lines of one page, and whether lines may lead on from there.
@@ -32,6 +34,7 @@ struct Leg {
     pc: u32,
     left: u32,
     goes_on: bool,
+    at: usize,
 }
 
 /// Whether an offset is that of a halfword of a page.
@@ -81,33 +84,46 @@ fn fly_in_page<P: Pages, E: Extent>(
         (floor + result.left) }
     ensures within { result.left ≤ budget }
     ensures on { result.goes_on ≡ true → result.left < budget }
+    ensures line { (result.at ≡ 0) ⊎ IsLineOf memory.new.shown memory.new.compared code.now
+        code.now.lines (page_start result.pc) result.pc result.at }
 {
     if !memory.is_shown_at(pc) {
         return Leg {
             pc,
             left: budget,
             goes_on: false,
+            at: 0,
         };
     }
     let lines = code.lines();
     let base = pc / 4096 * 4096;
     let mut to = pc % 4096;
     let mut left = budget;
-    while is_place(to) {
+    loop {
         let at = landing(memory, code, base, to);
         if at == 0 {
             return Leg {
                 pc: base.wrapping_add(to),
                 left,
                 goes_on: false,
+                at: 0,
             };
         }
         if left <= u32::from(line_in(lines, at).run) {
             let gone = part_of_run(regs, memory, lines, base, at, left);
+            if gone.left == left {
+                return Leg {
+                    pc: base.wrapping_add(gone.to),
+                    left,
+                    goes_on: false,
+                    at,
+                };
+            }
             return Leg {
                 pc: base.wrapping_add(gone.to),
                 left: gone.left,
-                goes_on: gone.left < budget,
+                goes_on: true,
+                at: 0,
             };
         }
         let gone = follow::<P, E>(regs, memory, lines, base, at, left);
@@ -116,15 +132,19 @@ fn fly_in_page<P: Pages, E: Extent>(
                 pc: base.wrapping_add(gone.to),
                 left,
                 goes_on: false,
+                at,
             };
         }
-        to = gone.to;
         left = gone.left;
-    }
-    Leg {
-        pc: base.wrapping_add(to),
-        left,
-        goes_on: left < budget,
+        to = gone.to;
+        if !is_place(to) {
+            return Leg {
+                pc: base.wrapping_add(to),
+                left,
+                goes_on: true,
+                at: 0,
+            };
+        }
     }
 }
 
@@ -147,18 +167,23 @@ pub fn fly<P: Pages>(
         (f, bytes_of_pages code.now) t) w t (with_pc regs.new result.pc) (floor + budget)
         (floor + result.left) }
     ensures within { result.left ≤ budget }
+    ensures line { (result.at ≡ 0) ⊎ IsLineOf memory.new.shown memory.new.compared code.now
+        code.now.lines (page_start result.pc) result.pc result.at }
 {
     let mut pc = pc;
     let mut left = budget;
-    while left > 0 {
+    loop {
         let leg = fly_in_page::<P, Whole>(regs, memory, code, pc, left);
         pc = leg.pc;
         left = leg.left;
         if !leg.goes_on {
-            break;
+            return Flown {
+                pc,
+                left,
+                at: leg.at,
+            };
         }
     }
-    Flown { pc, left }
 }
 
 /// Whether one of these addresses is in the page of this one.
@@ -205,5 +230,5 @@ pub fn fly_between<P: Pages>(
             break;
         }
     }
-    Flown { pc, left }
+    Flown { pc, left, at: 0 }
 }

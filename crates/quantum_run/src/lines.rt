@@ -15,6 +15,7 @@ ghost use Rattle.rv_exec.specs.Runs.{Runs};
 ghost use Rattle.code_pages.specs.Kinds.{ends};
 ghost use Rattle.code_pages.specs.declared.kind.Kind.TheVariants.{Below, End, Equal, Less};
 ghost use Rattle.code_pages.specs.Lines.{AreRuns, Known, bytes_of_pages};
+ghost use Rattle.code_pages.specs.declared.line.Line.{Line as line_type};
 ghost use Rattle.quantum_run.specs.Flying.{DoneOrNot, HasLine, IsLineOf, IsRunWithin};
 ghost use Rattle.quantum_run.specs.Showing.{ShowsKnown, Still, still};
 ghost use Rattle.quantum_run.specs.ThreadRuns.{ReachesIn};
@@ -368,6 +369,8 @@ pub fn follow<P: Pages, E: Extent>(
         (f, bytes_of_pages known) t) w t
         (with_pc regs.new ((base + result.to) % 2 ^ 32)) (floor + budget) (floor + result.left) }
     ensures within { result.left ≤ budget }
+    ensures stays { (line : line_type) → slice_get lines.now from ≡ Some line
+        → result.left ≡ budget → result.to ≡ line.offset }
     ensures same { (memory.new.shown ≡ memory.old.shown)
         × (memory.new.compared ≡ memory.old.compared) }
 {
@@ -430,6 +433,8 @@ pub fn part_of_run<P: Pages>(
         (f, bytes_of_pages known) t) w t
         (with_pc regs.new ((base + result.to) % 2 ^ 32)) (floor + budget) (floor + result.left) }
     ensures within { result.left ≤ budget }
+    ensures stays { (line : line_type) → slice_get lines.now from ≡ Some line
+        → result.left ≡ budget → result.to ≡ line.offset }
     ensures same { (memory.new.shown ≡ memory.old.shown)
         × (memory.new.compared ≡ memory.old.compared) }
 {

@@ -17,7 +17,7 @@ use crate::flight::{fly, fly_between};
 use crate::lent::Lent;
 use crate::page_places::{Places, write_out};
 use crate::pages::{InPlace, Pages};
-use crate::slowly::slowly;
+use crate::slowly::{learns, slowly};
 use crate::thread_memory::Running;
 use code_pages::CodePages;
 use dos_world::{Reason, Regs};
@@ -33,8 +33,9 @@ fn is_stop_at(stops: &[u32], pc: u32) -> bool
 }
 
 /// Instructions on a memory, each for one of the budget, until one stops or the budget has come
-/// down to the floor: by the lines that are known where they are, and else one by one. While they
-/// run, pc stands beside the registers. Nothing has been compared when they begin.
+/// down to the floor: by the lines that are known where they are, and else one by one. Where none
+/// is known one is learnt, and the next turn goes on by it. While they run, pc stands beside the
+/// registers. Nothing has been compared when they begin.
 #[inline(always)]
 fn go<P: Pages>(
     regs: &mut Regs,
@@ -59,14 +60,20 @@ fn go<P: Pages>(
     let mut pc = regs.pc();
     let mut left = *budget - floor;
     let mut why = Reason::Service;
+    let mut has_learnt = false;
     while left > 0 {
         let flown = fly(regs, memory, code, pc, left);
+        let is_wanted = flown.left < left || !has_learnt;
         pc = flown.pc;
         left = flown.left;
         if left == 0 {
             break;
         }
-        match slowly(regs, memory, code, pc, &mut why) {
+        has_learnt = learns(memory, code, pc, flown.at, is_wanted);
+        if has_learnt {
+            continue;
+        }
+        match slowly(regs, memory, code, pc, flown.at, &mut why) {
             Some(next) => {
                 pc = next;
                 left -= 1;
@@ -126,7 +133,7 @@ fn go_up_to<P: Pages>(
             *budget = left;
             return None;
         }
-        match slowly(regs, memory, code, pc, &mut why) {
+        match slowly(regs, memory, code, pc, 0, &mut why) {
             Some(next) => {
                 pc = next;
                 left -= 1;

@@ -1,9 +1,11 @@
 // Slots for pages that were found.
-ghost use Rattle.std.specs.Prelude.{◌≡◌, ◌≢◌, ◌<◌, ◌+◌, ◌==◌, ◌/◌, ◌%◌, ◌⊎◌, replicate, slice_set};
+ghost use Rattle.std.specs.Prelude.{◌≡◌, ◌≢◌, ◌<◌, ◌+◌, ◌==◌, ◌/◌, ◌%◌, ◌⊎◌, false, replicate};
+ghost use Rattle.std.specs.Prelude.{slice_set};
 ghost use Rattle.std.specs.List.{list_any};
 ghost use Rattle.dos_world.specs.Reach.{width};
 ghost use Rattle.quantum_run.specs.Finding.{no_start, page_start};
-ghost use Rattle.quantum_run.specs.Knowing.{AreFewer, AreHidden, IsNoCode, IsUncompared};
+ghost use Rattle.quantum_run.specs.Knowing.{AreFewer, AreHidden, SlotsAreMarked, IsNoCode};
+ghost use Rattle.quantum_run.specs.Knowing.{IsUncompared};
 ghost use Rattle.quantum_run.specs.Knowing.{code_place};
 ghost use Rattle.quantum_run.specs.Knowing.{empty_slot};
 
@@ -79,6 +81,24 @@ pub fn has_frame(slots: &[Slot; 64], frame: u32) -> bool
     found
 }
 
+/// Which of 64 marks says whether a slot may have a frame.
+#[inline(always)]
+pub fn mark_place(frame: u32) -> usize
+    ensures place { result ≡ frame % 64 }
+    ensures small { result < 64 }
+{
+    (frame % 64) as usize
+}
+
+/// Whether a slot has this frame, which none has whose mark isn't set.
+#[inline(always)]
+pub fn finds_frame(slots: &[Slot; 64], marks: &[bool; 64], frame: u32) -> bool
+    requires { SlotsAreMarked slots.now marks.now }
+    ensures { result ≡ false → IsNoCode slots.now frame }
+{
+    marks[mark_place(frame)] && has_frame(slots, frame)
+}
+
 /// The slot of an address's page has this frame from now on.
 #[inline(always)]
 pub fn keep_frame(slots: &mut [Slot; 64], address: u32, frame: u32)
@@ -92,11 +112,12 @@ pub fn keep_frame(slots: &mut [Slot; 64], address: u32, frame: u32)
 }
 
 /// No slot has this frame from now on: where one had, none has found anything.
-pub fn forget_frame(slots: &mut [Slot; 64], frame: u32)
+pub fn forget_frame(slots: &mut [Slot; 64], marks: &[bool; 64], frame: u32)
+    requires { SlotsAreMarked slots.old marks.now }
     ensures { ((slots.new ≡ slots.old) × IsNoCode slots.old frame)
         ⊎ (slots.new ≡ replicate 64 empty_slot) }
 {
-    if has_frame(slots, frame) {
+    if finds_frame(slots, marks, frame) {
         *slots = nothing_found();
     }
 }
@@ -118,13 +139,30 @@ fn hidden(slot: Slot, frame: u32) -> Slot
 /// No slot has this frame from now on; the others are the same.
 #[cold]
 #[inline(never)]
-pub fn hide_frame(slots: &mut [Slot; 64], frame: u32)
+fn hide_everywhere(slots: &mut [Slot; 64], frame: u32)
     ensures none { IsNoCode slots.new frame }
     ensures others { AreHidden slots.old slots.new }
 {
     for at in 0..64usize {
         slots[at] = hidden(slots[at], frame);
     }
+}
+
+/// The same, and whether one had it. It looks first at the slot of an address's page: mostly no
+/// other has it.
+#[inline]
+pub fn hide_frame(slots: &mut [Slot; 64], address: u32, frame: u32) -> bool
+    ensures none { IsNoCode slots.new frame }
+    ensures others { AreHidden slots.old slots.new }
+{
+    let place = slot_place(address);
+    let is_there = slots[place].frame == frame;
+    slots[place] = hidden(slots[place], frame);
+    if has_frame(slots, frame) {
+        hide_everywhere(slots, frame);
+        return true;
+    }
+    is_there
 }
 
 /// No block of a slot has been compared from now on; the others are the same.

@@ -1,12 +1,14 @@
 // One instruction, with pc beside the registers.
-ghost use Rattle.std.specs.Prelude.{◌≡◌, ℕ, List, unwrap_or};
+ghost use Rattle.std.specs.Prelude.{◌≡◌, ◌<◌, ◌⊎◌, ◌%◌, ℕ, List, true, unwrap_or};
 ghost use Rattle.dos_world.specs.World.{World, Registers as registers_of_thread, with_pc};
 ghost use Rattle.dos_world.specs.declared.Reason.{Reason as reason};
 ghost use Rattle.rv_exec.specs.Arrivals.{arrived, went};
 ghost use Rattle.rv_exec.specs.Runs.{Runs, Steps};
 ghost use Rattle.flat_machine.specs.Step.{step};
-ghost use Rattle.code_pages.specs.Lines.{bytes_of_pages};
-ghost use Rattle.quantum_run.specs.Flying.{went_on};
+ghost use Rattle.code_pages.specs.Lines.{IsLiveAt, bytes_of_pages};
+ghost use Rattle.quantum_run.specs.Finding.{page_start};
+ghost use Rattle.quantum_run.specs.Flying.{IsLineOf, went_on};
+ghost use Rattle.quantum_run.specs.Knowing.{AreRight, IsLineFor};
 ghost use Rattle.quantum_run.specs.Showing.{ShowsKnown, Still, still};
 
 use crate::lines::line_in;
@@ -48,16 +50,78 @@ fn by_fetch<M: Memory>(regs: &mut Regs, memory: &mut M, pc: u32, why: &mut Reaso
     }
 }
 
+/// Whether the line of the code at pc is known from now on, where none is and it's wanted. `at` is
+/// the line there, or 0.
+#[inline(always)]
+pub fn learns<P: Pages>(
+    memory: &mut Running<'_, P>,
+    code: &mut CodePages,
+    pc: u32,
+    at: usize,
+    is_wanted: bool,
+) -> bool
+    ensures shows { (f : Still × P.Fixed) (t : ℕ) (w : World) → ShowsKnown
+        (still memory.old.tid (P.owners memory.old.pages) memory.old.space.now.entries)
+        (P.fixed memory.old.pages) (P.pages memory.old.pages) memory.old.shown memory.old.compared
+        (f, bytes_of_pages code.old) t w
+        → ShowsKnown
+        (still memory.new.tid (P.owners memory.new.pages) memory.new.space.now.entries)
+        (P.fixed memory.new.pages) (P.pages memory.new.pages) memory.new.shown memory.new.compared
+        (f, bytes_of_pages code.new) t w }
+    ensures wanted { result ≡ true → is_wanted ≡ true }
+    ensures known { 0 < at → (memory.new ≡ memory.old) × (code.new ≡ code.old) }
+{
+    if at != 0 {
+        return false;
+    }
+    is_wanted && memory.line_to_perform(code, pc) != 0
+}
+
+/// The line of the code at pc from now on, where it can be known: `at`, unless it is 0 or stale.
+#[inline(always)]
+fn line_here<P: Pages>(
+    memory: &mut Running<'_, P>,
+    code: &mut CodePages,
+    pc: u32,
+    at: usize,
+) -> usize
+    requires { (at ≡ 0) ⊎ IsLineOf memory.old.shown memory.old.compared code.old code.old.lines
+        (page_start pc) pc at }
+    ensures line { (result ≡ 0)
+        ⊎ IsLineFor memory.new.shown memory.new.compared code.new pc result }
+    ensures live { (result ≡ 0) ⊎ IsLiveAt code.new.lines result }
+    ensures even { (result ≡ 0) ⊎ (pc % 2 ≡ 0) }
+    ensures right { AreRight memory.old.shown memory.old.compared (P.pages memory.old.pages)
+        (bytes_of_pages code.old)
+        → AreRight memory.new.shown memory.new.compared (P.pages memory.new.pages)
+        (bytes_of_pages code.new) }
+    ensures still { still memory.new.tid (P.owners memory.new.pages) memory.new.space.now.entries
+        ≡ still memory.old.tid (P.owners memory.old.pages) memory.old.space.now.entries }
+    ensures fixed { P.fixed memory.new.pages ≡ P.fixed memory.old.pages }
+    ensures pages { P.pages memory.new.pages ≡ P.pages memory.old.pages }
+{
+    if at == 0 {
+        return memory.line_to_perform(code, pc);
+    }
+    if line_in(code.lines(), at).size == 0 {
+        return memory.line_to_perform(code, pc);
+    }
+    at
+}
+
 /// One instruction at pc, by its line where that can be known: where it leads, or None, for this
-/// reason, where it stops and changes nothing.
+/// reason, where it stops and changes nothing. `at` is that line, or 0.
 #[inline(never)]
 pub fn slowly<P: Pages>(
     regs: &mut Regs,
     memory: &mut Running<'_, P>,
     code: &mut CodePages,
     pc: u32,
+    at: usize,
     why: &mut Reason,
 ) -> Option<u32>
+    requires { (at ≡ 0) ⊎ IsLineOf memory.old.shown memory.old.compared code.old code.old.lines
+        (page_start pc) pc at }
     ensures { (f : Still × P.Fixed) (t : ℕ) (w : World) (budget : ℕ)
         → Runs (ShowsKnown
         (still memory.old.tid (P.owners memory.old.pages) memory.old.space.now.entries)
@@ -69,7 +133,7 @@ pub fn slowly<P: Pages>(
         (f, bytes_of_pages code.new) t) w t (with_pc regs.new (unwrap_or result pc)) budget
         (went_on result why.new) (step w t) }
 {
-    let at = memory.line_to_perform(code, pc);
+    let at = line_here(memory, code, pc, at);
     if at == 0 {
         return by_fetch(regs, memory, pc, why);
     }

@@ -12,7 +12,8 @@ ghost use Rattle.flat_machine.specs.Step.{load_at, store_at};
 ghost use Rattle.quantum_run.specs.Showing.{ShowsKnown, Still, StoresOrNot, still};
 ghost use Rattle.quantum_run.specs.Finding.{AreFramesOf, IsFrameOf, IsWriting, flat_place};
 ghost use Rattle.quantum_run.specs.Finding.{frame_for, frame_for_size, frame_of, page_start};
-ghost use Rattle.quantum_run.specs.Knowing.{AreRight, FetchesAreApart, IsCompared, IsLineFor};
+ghost use Rattle.quantum_run.specs.Knowing.{SlotsAreMarked, AreRight, FetchesAreApart, IsCompared};
+ghost use Rattle.quantum_run.specs.Knowing.{IsLineFor};
 ghost use Rattle.quantum_run.specs.Knowing.{IsNoCode};
 ghost use Rattle.quantum_run.specs.Knowing.{KeepsRight, slot_of};
 ghost use Rattle.quantum_run.specs.Pages.{AreReached, AreOwn, AreWithin, IsPageHere};
@@ -20,8 +21,8 @@ ghost use Rattle.quantum_run.specs.Pages.{AreReached, AreOwn, AreWithin, IsPageH
 use crate::pages::Pages;
 use crate::slot::Slot;
 use crate::slots::{
-    NO_START, aligned_offset, aligned_start, code_place, forget_blocks, forget_frame, has_frame,
-    hide_frame, keep_frame, nothing_found, slot_place, start_of,
+    NO_START, aligned_offset, aligned_start, code_place, finds_frame, forget_blocks, forget_frame,
+    hide_frame, keep_frame, mark_place, nothing_found, slot_place, start_of,
 };
 use code_pages::CodePages;
 use dos_world::{Access, Entry, Reason, Size};
@@ -50,6 +51,8 @@ pub struct Running<'a, P: Pages> {
     pub compared: [bool; 1024],
     pub loaded: [Slot; 64],
     pub stored: [Slot; 64],
+    pub shown_marks: [bool; 64],
+    pub stored_marks: [bool; 64],
     pub hints: [u32; 64],
     pub refused: Reason,
     ghost reached: { AreReached tid (P.owners pages) space.now.entries (P.pages pages) },
@@ -59,6 +62,8 @@ pub struct Running<'a, P: Pages> {
     ghost loaded_are: { AreFramesOf tid (P.owners pages) space.now.entries Load loaded },
     ghost stored_are: { AreFramesOf tid (P.owners pages) space.now.entries Store stored },
     ghost apart: { FetchesAreApart shown stored },
+    ghost shown_marked: { SlotsAreMarked shown shown_marks },
+    ghost stored_marked: { SlotsAreMarked stored stored_marks },
 }
 
 impl<'a, P: Pages> Running<'a, P> {
@@ -80,6 +85,8 @@ impl<'a, P: Pages> Running<'a, P> {
             compared: [false; 1024],
             loaded: nothing_found(),
             stored: nothing_found(),
+            shown_marks: [false; 64],
+            stored_marks: [false; 64],
             hints,
             refused: Reason::Fault(11),
         }
@@ -201,10 +208,11 @@ impl<'a, P: Pages> Running<'a, P> {
         {
             return;
         }
-        if has_frame(&self.shown, entry.frame) {
+        if finds_frame(&self.shown, &self.shown_marks, entry.frame) {
             return;
         }
         keep_frame(&mut self.stored, address, entry.frame);
+        self.stored_marks[mark_place(entry.frame)] = true;
     }
 
     /// A load finds this frame too from now on, of an address's page that was found for a store or
@@ -271,11 +279,12 @@ impl<'a, P: Pages> Running<'a, P> {
         ensures pages { P.pages self.new.pages ≡ P.pages self.old.pages }
     {
         let slot = slot_place(address);
-        forget_frame(&mut self.stored, frame);
+        forget_frame(&mut self.stored, &self.stored_marks, frame);
         self.shown[slot] = Slot {
             start: start_of(address),
             frame,
         };
+        self.shown_marks[mark_place(frame)] = true;
         forget_blocks(&mut self.compared, slot);
     }
 
@@ -399,6 +408,25 @@ impl<'a, P: Pages> Running<'a, P> {
         true
     }
 
+    /// No fetch has found this frame any more; whether one had. Mostly it was that of this address.
+    #[inline(always)]
+    fn hide(&mut self, address: u32, frame: u32) -> bool
+        ensures free { IsNoCode self.new.shown frame }
+        ensures right { KeepsRight self.old.shown self.old.compared (P.pages self.old.pages)
+            self.new.shown self.new.compared (P.pages self.new.pages) }
+        ensures still { still self.new.tid (P.owners self.new.pages) self.new.space.now.entries
+            ≡ still self.old.tid (P.owners self.old.pages) self.old.space.now.entries }
+        ensures fixed { P.fixed self.new.pages ≡ P.fixed self.old.pages }
+        ensures pages { P.pages self.new.pages ≡ P.pages self.old.pages }
+        ensures same { (self.new.refused ≡ self.old.refused)
+            × (self.new.stored_marks ≡ self.old.stored_marks) }
+    {
+        if !self.shown_marks[mark_place(frame)] {
+            return false;
+        }
+        hide_frame(&mut self.shown, address, frame)
+    }
+
     /// A store finds this frame from now on, unless a fetch has found it: none has any more then.
     #[inline(always)]
     fn store_again(&mut self, address: u32, access: Access, frame: u32)
@@ -414,11 +442,11 @@ impl<'a, P: Pages> Running<'a, P> {
         ensures pages { P.pages self.new.pages ≡ P.pages self.old.pages }
         ensures refused { self.new.refused ≡ self.old.refused }
     {
-        if has_frame(&self.shown, frame) {
-            hide_frame(&mut self.shown, frame);
+        if self.hide(address, frame) {
             return;
         }
         keep_frame(&mut self.stored, address, frame);
+        self.stored_marks[mark_place(frame)] = true;
     }
 
     /// The frame of an address's page for a store or claim, by a search; None where it is refused.

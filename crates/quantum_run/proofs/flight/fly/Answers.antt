@@ -15,8 +15,8 @@ abbrev shown : (g : given.Over) → Running g.row.P.Denot g.P.Pages
 shown g m = ShowsKnown (still m.tid (g.P.Pages.owners m.pages) m.space.now.entries)
     (g.P.Pages.fixed m.pages) (g.P.Pages.pages m.pages) m.shown m.compared
 
-pub loop-left-init : goal.loop-left-init
-loop-left-init g c = (
+pub loop-leg-init : goal.loop-leg-init
+loop-leg-init g c = (
   omega arith,
   λ floor f t w runs.
       reaches-none _ w t (with_pc c.args.regs.now c.args.pc) (floor + c.args.budget) runs,
@@ -40,23 +40,23 @@ leg-more g before after r r' code pc to budget left more less within leg floor f
     (floor + budget) (floor + left) (floor + more) (omega (arith, less)) (omega (arith, within))
     (λ u ru. leg floor f t u ru) reached
 
-pub loop-left-preserved : goal.loop-left-preserved
-loop-left-preserved g c =
-    let i = c.loop-left.invariant in
+pub loop-leg-preserved : goal.loop-leg-preserved
+loop-leg-preserved g c =
+    let i = c.loop-leg.invariant in
     let e = c.fly_in_page-leg.ensures in (
       omega (arith, i.0, e.within),
       λ floor f t w runs.
-          leg-more g c.loop-left.memory c.fly_in_page-leg.new.memory c.loop-left.regs
-          c.fly_in_page-leg.new.regs c.args.code.now c.loop-left.pc c.fly_in_page-leg.result.pc
-          c.args.budget c.loop-left.left c.fly_in_page-leg.result.left e.within i.0
+          leg-more g c.loop-leg.memory c.fly_in_page-leg.new.memory c.loop-leg.regs
+          c.fly_in_page-leg.new.regs c.args.code.now c.loop-leg.pc c.fly_in_page-leg.result.pc
+          c.args.budget c.loop-leg.left c.fly_in_page-leg.result.left e.within i.0
           (λ floor f t u ru. (e.reaches floor f t u ru).reaches) floor f t w (i.1 floor f t w runs),
     )
 
 pub returns-then-not-leg-clause-reaches : goal.returns-then-not-leg-clause-reaches
 returns-then-not-leg-clause-reaches g c = λ floor f t w runs.
-    let i = c.loop-left.invariant in
+    let i = c.loop-leg.invariant in
     let e = c.fly_in_page-leg.ensures in
-    leg-more g c.loop-left.memory c.fly_in_page-leg.new.memory c.loop-left.regs
-    c.fly_in_page-leg.new.regs c.args.code.now c.loop-left.pc c.fly_in_page-leg.result.pc
-    c.args.budget c.loop-left.left c.fly_in_page-leg.result.left e.within i.0
+    leg-more g c.loop-leg.memory c.fly_in_page-leg.new.memory c.loop-leg.regs
+    c.fly_in_page-leg.new.regs c.args.code.now c.loop-leg.pc c.fly_in_page-leg.result.pc
+    c.args.budget c.loop-leg.left c.fly_in_page-leg.result.left e.within i.0
     (λ floor f t u ru. (e.reaches floor f t u ru).reaches) floor f t w (i.1 floor f t w runs)

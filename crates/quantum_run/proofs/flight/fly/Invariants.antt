@@ -6,8 +6,8 @@ use Rattle.quantum_run.specs.ThreadRuns.{Reaches}
 use Rattle.quantum_run.specs.Showing.{ShowsKnown, Still, still}
 use Rattle.quantum_run.proofs.flight.fly.Given as goal
 
-abbrev pub invariant-loop-left : goal.invariant-loop-left
-invariant-loop-left g l =
+abbrev pub invariant-loop-leg : goal.invariant-loop-leg
+invariant-loop-leg g l =
     (l.left ≤ l.budget)
     × ((floor : ℕ) (f : Still × g.P.Pages.Fixed) (t : ℕ) (w : World)
     → Runs (ShowsKnown
@@ -21,5 +21,5 @@ invariant-loop-left g l =
     l.memory.compared (f, bytes_of_pages l.code) t) w t (with_pc l.regs l.pc)
     (floor + l.budget) (floor + l.left))
 
-abbrev pub decreases-loop-left : goal.decreases-loop-left
-decreases-loop-left g l = l.left
+abbrev pub decreases-loop-leg : goal.decreases-loop-leg
+decreases-loop-leg g l = l.left

@@ -1,4 +1,4 @@
-use Rattle.std.proofs.Common.{ℕ, ◌+◌, ◌-◌, ◌≤◌, ◌≡◌, ◌∙◌, false, List, Option, arith, sym}
+use Rattle.std.proofs.Common.{ℕ, ◌+◌, ◌-◌, ◌≤◌, ◌∙◌, List, Option, arith, sym}
 use Rattle.dos_world.specs.World.{World, Registers, with_pc}
 use Rattle.rv_exec.specs.Runs.{Runs}
 use Rattle.code_pages.specs.Lines.{Known, bytes_of_pages}

@@ -1,5 +1,5 @@
 use Rattle.std.proofs.Common.{ℕ, ◌+◌, ◌≡◌, ◌/◌, ◌%◌, ◌*◌, ◌^◌, ◌∙◌, List, Option, ap, arith, refl}
-use Rattle.std.proofs.Common.{Bool, length, subst, sym, ◌-◌, ◌<◌, ◌≤◌, ◌⊎◌}
+use Rattle.std.proofs.Common.{Bool, inr, length, subst, sym, ◌-◌, ◌<◌, ◌≤◌, ◌⊎◌}
 use Rattle.dos_world.specs.World.{World, Registers, with_pc}
 use Rattle.code_pages.specs.Lines.{AreRuns, Known, bytes_of_pages}
 use Rattle.code_pages.specs.declared.line.Line.{Line}
@@ -14,7 +14,7 @@ use Rattle.quantum_run.specs.declared.thread_memory.Running.{Running}
 use Rattle.quantum_run.specs.Knowing.{empty_slot}
 use Rattle.std.specs.Prelude.{slice_index_or}
 use Rattle.quantum_run.proofs.RunSteps.{reaches-none, reaches-then}
-use Rattle.quantum_run.proofs.Walking.{got-within, not-left, not-none, placed}
+use Rattle.quantum_run.proofs.Walking.{got-within, not-left, not-none, placed, stays-there}
 use Rattle.quantum_run.proofs.flight.fly_in_page.Given as given
 use Rattle.quantum_run.proofs.flight.fly_in_page.Goals as goal
 
@@ -69,6 +69,7 @@ returns-then-not-is_shown_at-clause-reaches g c = λ floor f t w runs. record {
 
 pub loop-lines-init : goal.loop-lines-init
 loop-lines-init g c =
+    let even = c.is_shown_at.ensures.even c.if-not-is_shown_at.false in
     let here : c.args.pc ≡ (c.args.pc / 4096 * 4096 + c.args.pc % 4096) % 2 ^ 32 =
     omega (arith, c.ranges.pc.fits) in (
       omega arith,
@@ -80,12 +81,13 @@ loop-lines-init g c =
             (reaches-none _ w t (with_pc c.args.regs.now c.args.pc) (floor + c.args.budget) runs),
         λ stops out. none-yet stops _ w t (omega arith),
       ),
+      omega arith,
+      omega (arith, even),
     )
 
 pub landing-at-requires : goal.landing-at-requires
 landing-at-requires g c =
     let i = c.loop-lines.invariant in
-    let inside = c.is_place.ensures c.loop-lines-test.true in
     let base : ℕ = c.args.pc / 4096 * 4096 in
     let number : base / 4096 ≡ c.args.pc / 4096 = omega arith in
     record {
@@ -94,8 +96,8 @@ landing-at-requires g c =
           ∙ ap (λ k. (slice_index_or c.args.memory.now.shown (k % 64) empty_slot).start) number
           ∙ c.is_shown_at.ensures.found c.if-not-is_shown_at.false;
       base = omega arith;
-      inside = inside.0;
-      even = inside.1;
+      inside = i.4;
+      even = i.5;
     }
 
 pub line_in-requires : goal.line_in-requires
@@ -146,6 +148,8 @@ loop-lines-preserved g c =
           c.args.budget c.loop-lines.left c.follow-gone.result.left c.follow-gone.ensures.within
           i.0 (λ floor f t u ru. c.follow-gone.ensures.reaches c.args.code.now a floor f t u landed
           ru) floor f t w (i.3 floor f t w runs) in (x.reaches, x.outside),
+      (c.is_place.ensures c.if-not-is_place.false).0,
+      (c.is_place.ensures c.if-not-is_place.false).1,
     )
 
 pub returns-then-at-eq0-clause-reaches : goal.returns-then-at-eq0-clause-reaches
@@ -173,6 +177,49 @@ pub returns-then-gone-left-clause-reaches : goal.returns-then-gone-left-clause-r
 returns-then-gone-left-clause-reaches g c = λ floor f t w runs.
     let i = c.loop-lines.invariant in
     let m = c.loop-lines.memory in
+    let n = c.part_of_run-gone.new.memory in
+    let a = (c.args.pc / 4096 * 4096 + c.loop-lines.to) % 2 ^ 32 in
+    let to = (c.args.pc / 4096 * 4096 + c.part_of_run-gone.result.to) % 2 ^ 32 in
+    let landed = landed-in m.shown m.compared c.args.code.now c.lines-lines.result.now
+    (c.args.pc / 4096 * 4096) a c.landing-at.result c.lines-lines.ensures.lines
+    c.landing-at.ensures c.if-at-eq0.false in
+    subst (λ k. ReachesIn (c.args.pc / 4096 * 4096)
+    (shown g n (f, bytes_of_pages c.args.code.now) t) w t (with_pc c.part_of_run-gone.new.regs to)
+    (floor + c.args.budget) (floor + k)) c.if-gone-left.true
+    (run-more g m n c.loop-lines.regs c.part_of_run-gone.new.regs c.args.code.now
+    (c.args.pc / 4096 * 4096) a to c.args.budget c.loop-lines.left c.part_of_run-gone.result.left
+    c.part_of_run-gone.ensures.within i.0
+    (λ floor f t u ru. c.part_of_run-gone.ensures.reaches c.args.code.now a floor f t u landed ru)
+    floor f t w (i.3 floor f t w runs))
+
+pub returns-then-gone-left-clause-line : goal.returns-then-gone-left-clause-line
+returns-then-gone-left-clause-line g c =
+    let m = c.loop-lines.memory in
+    let e = c.part_of_run-gone.ensures in
+    let n = c.part_of_run-gone.new.memory in
+    inr (stays-there m.shown n.shown m.compared n.compared c.args.code.now c.lines-lines.result.now
+    (c.args.pc / 4096 * 4096) c.loop-lines.to c.part_of_run-gone.result.to _ c.landing-at.result
+    c.line_in.result.now (not-none c.landing-at.result c.if-at-eq0.false) e.same.0 e.same.1
+    c.lines-lines.ensures.lines (not-left c.landing-at.result c.landing-at.ensures
+    c.if-at-eq0.false) c.line_in.ensures (e.stays c.line_in.result.now c.line_in.ensures
+    c.if-gone-left.true) refl)
+
+pub returns-then-gone-left-2-clause-line : goal.returns-then-gone-left-2-clause-line
+returns-then-gone-left-2-clause-line g c =
+    let m = c.loop-lines.memory in
+    let e = c.follow-gone.ensures in
+    let n = c.follow-gone.new.memory in
+    inr (stays-there m.shown n.shown m.compared n.compared c.args.code.now c.lines-lines.result.now
+    (c.args.pc / 4096 * 4096) c.loop-lines.to c.follow-gone.result.to _ c.landing-at.result
+    c.line_in.result.now (not-none c.landing-at.result c.if-at-eq0.false) e.same.0 e.same.1
+    c.lines-lines.ensures.lines (not-left c.landing-at.result c.landing-at.ensures
+    c.if-at-eq0.false) c.line_in.ensures (e.stays c.line_in.result.now c.line_in.ensures
+    c.if-gone-left-2.true) refl)
+
+pub returns-then-gone-left-2-clause-reaches : goal.returns-then-gone-left-2-clause-reaches
+returns-then-gone-left-2-clause-reaches g c = λ floor f t w runs.
+    let i = c.loop-lines.invariant in
+    let m = c.loop-lines.memory in
     let n = c.follow-gone.new.memory in
     let a = (c.args.pc / 4096 * 4096 + c.loop-lines.to) % 2 ^ 32 in
     let to = (c.args.pc / 4096 * 4096 + c.follow-gone.result.to) % 2 ^ 32 in
@@ -181,14 +228,24 @@ returns-then-gone-left-clause-reaches g c = λ floor f t w runs.
     c.landing-at.ensures c.if-at-eq0.false in
     subst (λ k. ReachesIn (c.args.pc / 4096 * 4096)
     (shown g n (f, bytes_of_pages c.args.code.now) t) w t (with_pc c.follow-gone.new.regs to)
-    (floor + c.args.budget) (floor + k)) c.if-gone-left.true
+    (floor + c.args.budget) (floor + k)) c.if-gone-left-2.true
     (run-more g m n c.loop-lines.regs c.follow-gone.new.regs c.args.code.now
     (c.args.pc / 4096 * 4096) a to c.args.budget c.loop-lines.left c.follow-gone.result.left
     c.follow-gone.ensures.within i.0
     (λ floor f t u ru. c.follow-gone.ensures.reaches c.args.code.now a floor f t u landed ru)
     floor f t w (i.3 floor f t w runs))
 
-pub returns-clause-reaches : goal.returns-clause-reaches
-returns-clause-reaches g c = λ floor f t w runs.
-    let r = c.loop-lines.invariant.3 floor f t w runs in
-    record { reaches = r.0; outside = r.1 }
+pub returns-then-not-is_place-clause-reaches : goal.returns-then-not-is_place-clause-reaches
+returns-then-not-is_place-clause-reaches g c = λ floor f t w runs.
+    let i = c.loop-lines.invariant in
+    let m = c.loop-lines.memory in
+    let n = c.follow-gone.new.memory in
+    let a = (c.args.pc / 4096 * 4096 + c.loop-lines.to) % 2 ^ 32 in
+    let landed = landed-in m.shown m.compared c.args.code.now c.lines-lines.result.now
+    (c.args.pc / 4096 * 4096) a c.landing-at.result c.lines-lines.ensures.lines
+    c.landing-at.ensures c.if-at-eq0.false in
+    run-more g m n c.loop-lines.regs c.follow-gone.new.regs c.args.code.now
+    (c.args.pc / 4096 * 4096) a ((c.args.pc / 4096 * 4096 + c.follow-gone.result.to) % 2 ^ 32)
+    c.args.budget c.loop-lines.left c.follow-gone.result.left c.follow-gone.ensures.within i.0
+    (λ floor f t u ru. c.follow-gone.ensures.reaches c.args.code.now a floor f t u landed ru)
+    floor f t w (i.3 floor f t w runs)

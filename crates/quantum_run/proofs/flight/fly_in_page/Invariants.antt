@@ -1,4 +1,4 @@
-use Rattle.std.proofs.Common.{ℕ, List, ◌-◌, ◌+◌, ◌≤◌, ◌≡◌, ◌%◌, ◌^◌}
+use Rattle.std.proofs.Common.{ℕ, List, ◌-◌, ◌+◌, ◌<◌, ◌≤◌, ◌≡◌, ◌%◌, ◌^◌}
 use Rattle.dos_world.specs.World.{World, with_pc}
 use Rattle.rv_exec.specs.Runs.{Runs}
 use Rattle.code_pages.specs.Lines.{bytes_of_pages}
@@ -23,6 +23,7 @@ invariant-loop-lines g l =
     (with_pc l.regs ((l.base + l.to) % 2 ^ 32)) (floor + l.budget) (floor + l.left)
     × ((stops : List ℕ) → AreOutside stops l.base
     → StartsElsewhere stops (floor + l.budget - (floor + l.left)) w t))
+    × (l.to < 4096) × (l.to % 2 ≡ 0)
 
 abbrev pub decreases-loop-lines : goal.decreases-loop-lines
 decreases-loop-lines g l = l.left

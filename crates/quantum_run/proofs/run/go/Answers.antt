@@ -1,8 +1,10 @@
-use Rattle.std.proofs.Common.{ℕ, ◌+◌, ◌-◌, ◌≡◌, ◌<◌, ◌≤◌, ◌∙◌, List, Option, Some, None, arith}
-use Rattle.std.proofs.Common.{refl, subst, sym}
+use Rattle.std.proofs.Common.{ℕ, zero, suc, ◌+◌, ◌-◌, ◌≡◌, ◌<◌, ◌≤◌, ◌⊎◌, ◌∙◌, List, Option, Some}
+use Rattle.std.proofs.Common.{None, arith, inl, inr, refl, subst, sym}
 use Rattle.dos_world.specs.World.{World, Registers, with_pc}
 use Rattle.rv_exec.specs.Runs.{Runs}
 use Rattle.code_pages.specs.Lines.{Known, bytes_of_pages}
+use Rattle.quantum_run.specs.Finding.{page_start}
+use Rattle.quantum_run.specs.Flying.{IsLineOf}
 use Rattle.quantum_run.specs.Showing.{ShowsBy, ShowsKnown, Still, still}
 use Rattle.quantum_run.specs.ThreadRuns.{Goes, Reaches}
 use Rattle.quantum_run.specs.declared.thread_memory.Running.{Running}
@@ -60,6 +62,26 @@ flown-on g before after r r' code pc to floor budget left more less within flies
     (floor + left) (floor + more) (omega (arith, less)) within (λ u ru. flies floor f t u ru)
     reached
 
+-- the same, and a line that is learnt there
+flown-learnt : (g : given.Over) (before after last : Running g.row.P.Denot g.P.Pages)
+    (r r' : Registers) (code known : Known) (pc to floor budget left more : ℕ) → more ≤ left
+    → floor + left ≤ budget
+    → ((floor : ℕ) (f : Still × g.P.Pages.Fixed) (t : ℕ) (w : World)
+    → Runs (shown g before (f, bytes_of_pages code) t) w t (with_pc r pc) (floor + left)
+    → Reaches (shown g after (f, bytes_of_pages code) t) w t (with_pc r' to) (floor + left)
+    (floor + more))
+    → ((f : Still × g.P.Pages.Fixed) (t : ℕ) (w : World)
+    → shown g after (f, bytes_of_pages code) t w → shown g last (f, bytes_of_pages known) t w)
+    → (f : Still × g.P.Pages.Fixed) (t : ℕ) (w : World)
+    → Reaches (shown g before (f, bytes_of_pages code) t) w t (with_pc r pc) budget (floor + left)
+    → Reaches (shown g last (f, bytes_of_pages known) t) w t (with_pc r' to) budget (floor + more)
+flown-learnt g before after last r r' code known pc to floor budget left more less within flies
+    learns f t w reached =
+    reaches-shown (shown g after (f, bytes_of_pages code) t)
+    (shown g last (f, bytes_of_pages known) t) w t (with_pc r' to) budget (floor + more)
+    (λ u s. learns f t u s)
+    (flown-on g before after r r' code pc to floor budget left more less within flies f t w reached)
+
 -- a run that comes down to the floor
 comes-down : (g : given.Over) (m : Running g.row.P.Denot g.P.Pages) (code : Known)
     (regs own : Registers) (pc floor budget left : ℕ) → left ≡ 0 → own ≡ with_pc regs pc
@@ -79,6 +101,19 @@ comes-down g m code regs own pc floor budget left none is f t w reached =
       stops = refl;
     })
 
+pub loop-left-preserved-then-has_learnt : goal.loop-left-preserved-then-has_learnt
+loop-left-preserved-then-has_learnt g c =
+    let i = c.loop-left.invariant in
+    let e = c.fly-flown.ensures in (
+      omega (arith, i.0, e.within),
+      λ f t w runs.
+          flown-learnt g c.loop-left.memory c.fly-flown.new.memory c.learns-has_learnt.new.memory
+          c.loop-left.regs c.fly-flown.new.regs c.loop-left.code c.learns-has_learnt.new.code
+          c.loop-left.pc c.fly-flown.result.pc c.args.floor c.args.budget.now c.loop-left.left
+          c.fly-flown.result.left e.within i.0 e.reaches c.learns-has_learnt.ensures.shows f t w
+          (i.1 f t w runs),
+    )
+
 pub loop-left-preserved : goal.loop-left-preserved
 loop-left-preserved g c =
     let i = c.loop-left.invariant in
@@ -88,7 +123,8 @@ loop-left-preserved g c =
     let count : c.args.floor + left - 1 ≡ c.args.floor + (left - 1) = omega (arith, some) in (
       omega (arith, i.0, e.within),
       λ f t w runs.
-          let mid = shown g c.fly-flown.new.memory (f, bytes_of_pages c.loop-left.code) t in
+          let mid = shown g c.learns-has_learnt.new.memory
+          (f, bytes_of_pages c.learns-has_learnt.new.code) t in
           let new = shown g c.slowly.new.memory (f, bytes_of_pages c.slowly.new.code) t in
           subst (λ k. Reaches new w t (with_pc c.slowly.new.regs c.in-Some.next)
           c.args.budget.now k) count
@@ -96,10 +132,10 @@ loop-left-preserved g c =
           (with_pc c.slowly.new.regs c.in-Some.next) c.args.budget.now (c.args.floor + left)
           (omega (arith, some)) (omega (arith, i.0, e.within))
           (λ u ru. c.in-Some.ensures f t u (c.args.floor + left) ru)
-          (flown-on g c.loop-left.memory c.fly-flown.new.memory c.loop-left.regs
-          c.fly-flown.new.regs c.loop-left.code c.loop-left.pc c.fly-flown.result.pc c.args.floor
-          c.args.budget.now c.loop-left.left left e.within i.0 e.reaches f t w
-          (i.1 f t w runs))),
+          (flown-learnt g c.loop-left.memory c.fly-flown.new.memory c.learns-has_learnt.new.memory
+          c.loop-left.regs c.fly-flown.new.regs c.loop-left.code c.learns-has_learnt.new.code
+          c.loop-left.pc c.fly-flown.result.pc c.args.floor c.args.budget.now c.loop-left.left left
+          e.within i.0 e.reaches c.learns-has_learnt.ensures.shows f t w (i.1 f t w runs))),
     )
 
 pub returns-in-None-clause-runs : goal.returns-in-None-clause-runs
@@ -108,20 +144,42 @@ returns-in-None-clause-runs g c = λ f t w runs.
     let e = c.fly-flown.ensures in
     let left = c.fly-flown.result.left in
     let before = with_pc c.fly-flown.new.regs c.fly-flown.result.pc in
-    let mid = shown g c.fly-flown.new.memory (f, bytes_of_pages c.loop-left.code) t in
+    let mid = shown g c.learns-has_learnt.new.memory
+    (f, bytes_of_pages c.learns-has_learnt.new.code) t in
     let new = shown g c.slowly.new.memory (f, bytes_of_pages c.slowly.new.code) t in
     let at = with_pc c.slowly.new.regs c.fly-flown.result.pc in
     let stopped : Goes c.args.floor new w t at c.args.budget.now (c.args.floor + left)
     (Some c.slowly.new.why) =
     goes-stopped c.args.floor mid new w t before at c.args.budget.now (c.args.floor + left)
     c.slowly.new.why (λ u ru. c.in-None.ensures f t u (c.args.floor + left) ru)
-    (flown-on g c.loop-left.memory c.fly-flown.new.memory c.loop-left.regs
-    c.fly-flown.new.regs c.loop-left.code c.loop-left.pc c.fly-flown.result.pc c.args.floor
-    c.args.budget.now c.loop-left.left left e.within i.0 e.reaches f t w (i.1 f t w runs)) in
+    (flown-learnt g c.loop-left.memory c.fly-flown.new.memory c.learns-has_learnt.new.memory
+    c.loop-left.regs c.fly-flown.new.regs c.loop-left.code c.learns-has_learnt.new.code
+    c.loop-left.pc c.fly-flown.result.pc c.args.floor c.args.budget.now c.loop-left.left left
+    e.within i.0 e.reaches c.learns-has_learnt.ensures.shows f t w (i.1 f t w runs)) in
     goes-shown c.args.floor new _ w t _ c.args.budget.now (c.args.floor + left)
     (Some c.slowly.new.why) (λ u s. s.shows)
     (subst (λ (r : Registers). Goes c.args.floor new w t r c.args.budget.now
     (c.args.floor + left) (Some c.slowly.new.why)) (sym c.set_pc.ensures) stopped)
+
+-- a line that is there is there still, where none is learnt
+still-line : (g : given.Over) (m n : Running g.row.P.Denot g.P.Pages) (code known : Known)
+    (pc at : ℕ) → (at ≡ 0) ⊎ IsLineOf m.shown m.compared code code.lines (page_start pc) pc at
+    → (0 < at → (n ≡ m) × (known ≡ code))
+    → (at ≡ 0) ⊎ IsLineOf n.shown n.compared known known.lines (page_start pc) pc at
+still-line g m n code known pc zero line same = inl refl
+still-line g m n code known pc (suc at) (inl none) same = inl none
+still-line g m n code known pc (suc at) (inr line) same =
+    let s = same (omega arith) in
+    inr (subst (λ (x : Running g.row.P.Denot g.P.Pages). IsLineOf x.shown x.compared known
+    known.lines (page_start pc) pc (suc at)) (sym s.0)
+    (subst (λ (k : Known). IsLineOf m.shown m.compared k k.lines (page_start pc) pc (suc at))
+    (sym s.1) line))
+
+pub slowly-requires : goal.slowly-requires
+slowly-requires g c =
+    still-line g c.fly-flown.new.memory c.learns-has_learnt.new.memory c.loop-left.code
+    c.learns-has_learnt.new.code c.fly-flown.result.pc c.fly-flown.result.at
+    c.fly-flown.ensures.line c.learns-has_learnt.ensures.known
 
 -- where a run is, by other names
 moved : (g : given.Over) (m m' : Running g.row.P.Denot g.P.Pages) (r r' : Registers)

@@ -1,4 +1,5 @@
-use Rattle.std.proofs.Common.{ℕ, ◌+◌, ◌≤◌}
+use Rattle.std.proofs.Common.{ℕ, ◌+◌, ◌*◌, ◌≤◌}
+use Rattle.std.specs.Prelude.{if◌then◌else◌}
 use Rattle.dos_world.specs.World.{World, with_pc}
 use Rattle.rv_exec.specs.Runs.{Runs}
 use Rattle.code_pages.specs.Lines.{bytes_of_pages}
@@ -20,4 +21,4 @@ invariant-loop-left g l =
     (l.floor + l.left))
 
 abbrev pub decreases-loop-left : goal.decreases-loop-left
-decreases-loop-left g l = l.left
+decreases-loop-left g l = 2 * l.left + (if l.has_learnt then 0 else 1)

@@ -23,27 +23,27 @@ shown g m = ShowsKnown (still m.tid (g.P.Pages.owners m.pages) m.space.now.entri
 
 pub line_in-line-requires : goal.line_in-line-requires
 line_in-line-requires g c =
-    let n = c.line_to_perform-at.new.self in
-    let at = c.line_to_perform-at.result in
+    let n = c.line_here-at.new.memory in
+    let at = c.line_here-at.result in
     let some = not-none at c.if-at-eq0.false in
-    let here = placed n.shown n.compared c.line_to_perform-at.new.code c.lines.result.now
+    let here = placed n.shown n.compared c.line_here-at.new.code c.lines.result.now
     (page_start c.args.pc) c.args.pc at some
-    (line-of n.shown n.compared c.line_to_perform-at.new.code c.lines.result.now c.args.pc at some
-    c.line_to_perform-at.ensures.line c.line_to_perform-at.ensures.even c.ranges.pc.fits
+    (line-of n.shown n.compared c.line_here-at.new.code c.lines.result.now c.args.pc at some
+    c.line_here-at.ensures.line c.line_here-at.ensures.even c.ranges.pc.fits
     c.lines.ensures.lines c.lines.ensures.known) in
     got-within c.lines.result.now at here.0 here.1
 
 pub returns-then-at-eq0 : goal.returns-then-at-eq0
 returns-then-at-eq0 g c = λ f t w budget runs.
     let m = c.args.memory.now in
-    let n = c.line_to_perform-at.new.self in
-    let e = c.line_to_perform-at.ensures in
-    c.by_fetch.ensures (f, bytes_of_pages c.line_to_perform-at.new.code) t w budget (record {
+    let n = c.line_here-at.new.memory in
+    let e = c.line_here-at.ensures in
+    c.by_fetch.ensures (f, bytes_of_pages c.line_here-at.new.code) t w budget (record {
       shown = shows-learnt (still m.tid (g.P.Pages.owners m.pages) m.space.now.entries)
           (still n.tid (g.P.Pages.owners n.pages) n.space.now.entries) (g.P.Pages.fixed m.pages)
           (g.P.Pages.fixed n.pages) (g.P.Pages.pages m.pages) (g.P.Pages.pages n.pages) m.shown
           n.shown m.compared n.compared f (bytes_of_pages c.args.code.now)
-          (bytes_of_pages c.line_to_perform-at.new.code) t w e.still e.fixed e.pages e.right
+          (bytes_of_pages c.line_here-at.new.code) t w e.still e.fixed e.pages e.right
           runs.shown;
       thread = runs.thread;
     })
@@ -51,10 +51,10 @@ returns-then-at-eq0 g c = λ f t w budget runs.
 pub returns : goal.returns
 returns g c = λ f t w budget runs.
     let m = c.args.memory.now in
-    let n = c.line_to_perform-at.new.self in
-    let e = c.line_to_perform-at.ensures in
-    let known = c.line_to_perform-at.new.code in
-    let at = c.line_to_perform-at.result in
+    let n = c.line_here-at.new.memory in
+    let e = c.line_here-at.ensures in
+    let known = c.line_here-at.new.code in
+    let at = c.line_here-at.result in
     let lines = c.lines.result.now in
     let line = c.line_in-line.result.now in
     let some = not-none at c.if-at-eq0.false in

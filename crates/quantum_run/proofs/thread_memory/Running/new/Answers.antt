@@ -1,8 +1,8 @@
 use Rattle.dos_world.specs.declared.Access.TheVariants.{Fetch, Load, Store}
-use Rattle.std.proofs.Common.{List, sym, subst}
+use Rattle.std.proofs.Common.{List, false, replicate, sym, subst}
 use Rattle.quantum_run.specs.declared.slot.Slot.{Slot}
-use Rattle.quantum_run.specs.Knowing.{FetchesAreApart}
-use Rattle.quantum_run.proofs.Apart.{apart-none}
+use Rattle.quantum_run.specs.Knowing.{SlotsAreMarked, FetchesAreApart}
+use Rattle.quantum_run.proofs.Apart.{apart-none, marked-none}
 use Rattle.quantum_run.proofs.Places.{none-found}
 use Rattle.quantum_run.proofs.thread_memory.Running.new.Goals as goal
 
@@ -28,3 +28,13 @@ pub invariant_of-result-clause-apart : goal.invariant_of-result-clause-apart
 invariant_of-result-clause-apart g c =
     subst (λ (slots : List Slot). FetchesAreApart c.nothing_found.result slots)
     (sym c.nothing_found-3.ensures) (apart-none c.nothing_found.result 64)
+
+pub invariant_of-result-clause-shown_marked : goal.invariant_of-result-clause-shown_marked
+invariant_of-result-clause-shown_marked g c =
+    subst (λ (slots : List Slot). SlotsAreMarked slots (replicate 64 false))
+    (sym c.nothing_found.ensures) (marked-none (replicate 64 false) 64)
+
+pub invariant_of-result-clause-stored_marked : goal.invariant_of-result-clause-stored_marked
+invariant_of-result-clause-stored_marked g c =
+    subst (λ (slots : List Slot). SlotsAreMarked slots (replicate 64 false))
+    (sym c.nothing_found-3.ensures) (marked-none (replicate 64 false) 64)

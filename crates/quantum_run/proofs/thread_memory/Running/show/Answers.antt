@@ -1,9 +1,9 @@
-use Rattle.std.proofs.Common.{ℕ, inl, inr, List, refl, set, subst, sym}
+use Rattle.std.proofs.Common.{ℕ, inl, inr, List, refl, rules, set, subst, sym}
 use Rattle.dos_world.specs.declared.Access.TheVariants.{Fetch, Store}
 use Rattle.quantum_run.specs.declared.slot.Slot.{Slot}
 use Rattle.quantum_run.specs.Finding.{AreFramesOf, IsFrameOf}
-use Rattle.quantum_run.specs.Knowing.{FetchesAreApart}
-use Rattle.quantum_run.proofs.Apart.{apart-none, apart-shown}
+use Rattle.quantum_run.specs.Knowing.{SlotsAreMarked, FetchesAreApart}
+use Rattle.quantum_run.proofs.Apart.{apart-none, apart-shown, marked-more, marked-none}
 use Rattle.quantum_run.proofs.Comparing.{keeps-found}
 use Rattle.quantum_run.proofs.Places.{found-again, more-found, none-found}
 use Rattle.quantum_run.proofs.thread_memory.Running.show.Goals as goal
@@ -42,6 +42,14 @@ invariant_of-self g c =
                 FetchesAreApart (set m.shown place slot) s) (sym none)
                 (apart-none (set m.shown place slot) 64)
           ];
+      shown_marked = marked-more m.shown m.shown_marks place c.mark_place.result slot
+          (sym c.mark_place.ensures.place) (search rules) m.shown_marked;
+      stored_marked = elim c.forget_frame.ensures as (λ _. SlotsAreMarked stored m.stored_marks) [
+        | inl same ↦ subst (λ (s : List Slot). SlotsAreMarked s m.stored_marks) (sym same.0)
+            m.stored_marked
+        | inr none ↦ subst (λ (s : List Slot). SlotsAreMarked s m.stored_marks) (sym none)
+            (marked-none m.stored_marks 64)
+      ];
     }
 
 pub returns-clause-right : goal.returns-clause-right

@@ -1,39 +1,17 @@
-use Rattle.std.proofs.Common.{◌/◌, ◌%◌, ◌∙◌, sym}
-use Rattle.dos_world.specs.declared.Access.TheVariants.{Fetch, Store}
+use Rattle.std.proofs.Common.{◌≡◌, ◌<◌, ◌/◌, ◌%◌, Bool, List, Ok, length, rules, set, subst}
+use Rattle.std.proofs.Common.{sym, true}
+use Rattle.dos_world.specs.declared.Access.TheVariants.{Store}
 use Rattle.quantum_run.specs.declared.slot.Slot.{Slot}
-use Rattle.quantum_run.specs.Finding.{IsFrameOf, page_start}
-use Rattle.quantum_run.proofs.Apart.{apart-hidden, apart-stored, hidden-slot, no-frame}
-use Rattle.quantum_run.proofs.Comparing.{keeps-hidden}
-use Rattle.quantum_run.proofs.Places.{more-found, nothing-right, stores-again}
+use Rattle.quantum_run.specs.Finding.{frame_for, page_start}
+use Rattle.quantum_run.specs.Knowing.{SlotsAreMarked}
+use Rattle.quantum_run.specs.Showing.{Still}
+use Rattle.quantum_run.proofs.Apart.{apart-stored, marked-more}
+use Rattle.quantum_run.proofs.Places.{more-found, stores-again}
 use Rattle.quantum_run.proofs.thread_memory.Running.store_again.Goals as goal
 
 pub invariant_of-self : goal.invariant_of-self
 invariant_of-self g c =
-    let m = c.args.self.now in
-    let owners = g.P.Pages.owners m.pages in
-    let entries = m.space.now.entries in
-    let new = c.hide_frame.new.slots in
-    record {
-      reached = m.reached;
-      own = m.own;
-      within = m.within;
-      shown_are = hidden-slot
-          (λ (s : Slot). IsFrameOf m.tid owners entries Fetch s.start s.frame) m.shown new
-          (nothing-right m.tid owners entries Fetch) c.hide_frame.ensures.others m.shown_are;
-      loaded_are = m.loaded_are;
-      stored_are = m.stored_are;
-      apart = apart-hidden m.shown new m.stored c.hide_frame.ensures.others m.apart;
-    }
-
-pub returns-then-has_frame-clause-right : goal.returns-then-has_frame-clause-right
-returns-then-has_frame-clause-right g c =
-    let m = c.args.self.now in
-    keeps-hidden m.shown c.hide_frame.new.slots m.compared (g.P.Pages.pages m.pages)
-    c.hide_frame.ensures.others
-
-pub invariant_of-self-2 : goal.invariant_of-self-2
-invariant_of-self-2 g c =
-    let m = c.args.self.now in
+    let m = c.hide.new.self in
     let owners = g.P.Pages.owners m.pages in
     let entries = m.space.now.entries in
     let new = c.keep_frame.new.slots in
@@ -48,14 +26,17 @@ invariant_of-self-2 g c =
       stored_are = more-found m.tid owners entries Store m.stored new place slot
           c.keep_frame.ensures
           (stores-again m.tid owners entries c.args.access c.args.address c.args.frame
-          c.requires.writing c.requires.frame)
+          c.requires.writing
+          (subst (λ (s : Still). frame_for s.thread s.owners s.entries c.args.access
+          c.args.address ≡ Ok c.args.frame) (sym c.hide.ensures.still) c.requires.frame))
           m.stored_are;
       apart = apart-stored m.shown m.stored new place slot c.keep_frame.ensures m.apart
-          (no-frame m.shown c.args.frame
-          (sym c.has_frame.ensures ∙ c.if-has_frame.false));
+          c.hide.ensures.free;
+      shown_marked = m.shown_marked;
+      stored_marked = subst (λ (slots : List Slot). SlotsAreMarked slots
+          (set m.stored_marks c.mark_place.result true)) (sym c.keep_frame.ensures)
+          (marked-more m.stored m.stored_marks place c.mark_place.result slot
+          (sym c.mark_place.ensures.place)
+          (subst (λ (marks : List Bool). c.mark_place.result < length marks)
+          (sym c.hide.ensures.same.1) (search rules)) m.stored_marked);
     }
-
-pub returns-clause-free : goal.returns-clause-free
-returns-clause-free g c =
-    no-frame c.args.self.now.shown c.args.frame
-    (sym c.has_frame.ensures ∙ c.if-has_frame.false)

@@ -1,14 +1,15 @@
-use Rattle.std.proofs.Common.{rules, ◌/◌, ◌%◌, ◌∙◌, ap, sym}
+use Rattle.std.proofs.Common.{rules, ◌/◌, ◌%◌, ◌∙◌, List, ap, set, subst, sym, true}
 use Rattle.dos_world.specs.Reach.{is_foreign}
 use Rattle.dos_world.specs.declared.Access.TheVariants.{Store}
 use Rattle.quantum_run.specs.declared.slot.Slot.{Slot}
 use Rattle.quantum_run.specs.Finding.{page_start}
-use Rattle.quantum_run.proofs.Apart.{apart-stored, no-frame}
+use Rattle.quantum_run.specs.Knowing.{SlotsAreMarked}
+use Rattle.quantum_run.proofs.Apart.{apart-stored, marked-more}
 use Rattle.quantum_run.proofs.Places.{entry-found, found-again, more-found}
 use Rattle.quantum_run.proofs.thread_memory.Running.store_too.Goals as goal
 
-pub invariant_of-self : goal.invariant_of-self
-invariant_of-self g c =
+pub invariant_of-self-2 : goal.invariant_of-self-2
+invariant_of-self-2 g c =
     let m = c.args.self.now in
     let owners = g.P.Pages.owners m.pages in
     let entries = m.space.now.entries in
@@ -29,6 +30,11 @@ invariant_of-self g c =
           ∙ sym c.is_foreign.ensures ∙ c.if-is_foreign.false)))
           m.stored_are;
       apart = apart-stored m.shown m.stored new place slot c.keep_frame.ensures m.apart
-          (no-frame m.shown c.args.entry.frame
-          (sym c.has_frame.ensures ∙ c.if-has_frame.false));
+          (c.finds_frame.ensures c.if-finds_frame.false);
+      shown_marked = m.shown_marked;
+      stored_marked = subst (λ (slots : List Slot). SlotsAreMarked slots
+          (set m.stored_marks c.mark_place.result true)) (sym c.keep_frame.ensures)
+          (marked-more m.stored m.stored_marks place c.mark_place.result slot
+          (sym c.mark_place.ensures.place)
+          (search rules) m.stored_marked);
     }

@@ -50,4 +50,6 @@ invariant_of-self g c =
           (os : List Owner). AreFramesOf t os entries Store c.args.self.now.stored)
           (sym e) c.args.self.now.stored_are;
       apart = c.args.self.now.apart;
+      shown_marked = c.args.self.now.shown_marked;
+      stored_marked = c.args.self.now.stored_marked;
     }

@@ -1,6 +1,6 @@
 use Rattle.std.proofs.Common.{arith}
 use Rattle.quantum_run.proofs.Apart.{lacks-all}
-use Rattle.quantum_run.proofs.slots.hide_frame.Goals as goal
+use Rattle.quantum_run.proofs.slots.hide_everywhere.Goals as goal
 
 pub returns-clause-none : goal.returns-clause-none
 returns-clause-none c =

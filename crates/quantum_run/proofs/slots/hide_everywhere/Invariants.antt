@@ -1,7 +1,7 @@
 use Rattle.std.proofs.Common.{◌≡◌, length}
 use Rattle.quantum_run.specs.Knowing.{AreHidden}
 use Rattle.quantum_run.proofs.Apart.{LacksBelow}
-use Rattle.quantum_run.proofs.slots.hide_frame.Given as goal
+use Rattle.quantum_run.proofs.slots.hide_everywhere.Given as goal
 
 abbrev pub invariant-loop-at : goal.invariant-loop-at
 invariant-loop-at l = record {
