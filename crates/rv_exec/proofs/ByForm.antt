@@ -1,7 +1,7 @@
 -- From a form at pc to the code at pc.
 use Rattle.std.proofs.Common.{◌≡◌, ℕ, refl, ap, ◌∙◌, subst, Option, Some, None, Result}
 use Rattle.std.specs.Prelude.{option_map}
-use Rattle.dos_world.specs.World.{World, Registers}
+use Rattle.dos_world.specs.World.{Registers}
 use Rattle.dos_world.specs.declared.Reason.{Reason}
 use Rattle.rv_isa.specs.Compressed.{instruction}
 use Rattle.rv_isa.specs.declared.Instr.{Instr}
@@ -12,7 +12,7 @@ use Rattle.rv_form.specs.Forms.{IsFormOf, plain, plain_sized}
 use Rattle.rv_exec.specs.declared.Went.{Went}
 use Rattle.flat_machine.specs.Effect.{effect}
 use Rattle.rv_exec.specs.Instruction.{effect_by, effect_of_code, effect_of_form}
-use Rattle.flat_machine.specs.Over.{effect_in, world_answers}
+use Rattle.flat_machine.specs.Over.{MemoryAnswers, effect_in}
 use Rattle.rv_exec.specs.Follows.{Follows}
 
 -- what has no effect may be left out
@@ -42,10 +42,10 @@ pub form_effect : (code : ℕ) (form : Form) (r : Registers) → IsFormOf code f
     → effect_of_form form r ≡ effect_of_code code r
 form_effect code form r of = ap (λ o. effect_by o r) of ∙ by_plain (instruction code) r
 
-pub of_form : (shows : World → Type 0) (w : World) (t : ℕ) (r after : Registers) (code : ℕ)
-    (form : Form) (answer : Went) → IsFormOf code form
-    → Follows shows w r after answer (effect_in (world_answers t) w (effect_of_form form r))
-    → Follows shows w r after answer (effect_in (world_answers t) w (effect_of_code code r))
-of_form shows w t r after code form answer of follows =
-    subst (λ (o : Result (Registers × World) Reason). Follows shows w r after answer o)
-    (ap (effect_in (world_answers t) w) (form_effect code form r of)) follows
+pub of_form : {M : Type 0} (answers : MemoryAnswers M) (shows : M → Type 0) (m : M)
+    (r after : Registers) (code : ℕ) (form : Form) (answer : Went) → IsFormOf code form
+    → Follows shows m r after answer (effect_in answers m (effect_of_form form r))
+    → Follows shows m r after answer (effect_in answers m (effect_of_code code r))
+of_form {M} answers shows m r after code form answer of follows =
+    subst (λ (o : Result (Registers × M) Reason). Follows shows m r after answer o)
+    (ap (effect_in answers m) (form_effect code form r of)) follows

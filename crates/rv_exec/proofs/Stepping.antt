@@ -1,4 +1,4 @@
--- From one instruction over a memory to the thread's step on the flat world.
+-- An instruction over the answers of the flat world is the thread's step on it.
 use Rattle.std.proofs.Common.{ℕ, zero, suc, ◌-◌, ◌≡◌, refl, sym, ap, ◌∙◌, subst, List, [], ◌∷◌}
 use Rattle.std.proofs.Common.{Option, Some, None, Result, Ok, Err}
 use Rattle.std.specs.Prelude.{option_map, slice_get}
@@ -124,7 +124,7 @@ module _ (before after : World → Type 0) (t : ℕ) (blind : Blind after t) whe
       subst (λ (o : Result World Reason). Steps after w t r' b went o) (sym took) (
         f.went_is,
         record {
-          shown = blind x.1 _ (λ thread. refl) f.world;
+          shown = blind x.1 _ (λ thread. refl) f.memory;
           thread = subst (λ (a : Registers). option_map kept (thread_at (paid x.1 t x.0) t)
               ≡ Some (a, b - 1)) (sym f.registers) thread;
         },
@@ -136,7 +136,7 @@ module _ (before after : World → Type 0) (t : ℕ) (blind : Blind after t) whe
       subst (λ (o : Result World Reason). Steps after w t r' b went o) (sym took) (
         f.went_is,
         record {
-          shown = f.world;
+          shown = f.memory;
           thread =
               subst (λ (a : Registers). option_map kept (thread_at w t) ≡ Some (a, b))
               (sym f.registers) k;

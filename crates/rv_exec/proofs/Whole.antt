@@ -4,7 +4,7 @@ use Rattle.std.proofs.Common.{Bool, true, false, eqb, eq-eqb, Option, Some, None
 use Rattle.std.proofs.Common.{arith}
 use Rattle.std.specs.Prelude.{option_map}
 use Rattle.std.proofs.lemmas.Bool.{eqb-true}
-use Rattle.dos_world.specs.World.{World, Registers}
+use Rattle.dos_world.specs.World.{Registers}
 use Rattle.dos_world.specs.declared.Reason.{Reason}
 use Rattle.dos_world.specs.declared.Reason.TheVariants.{Fault}
 use Rattle.rv_isa.specs.Meaning.{meaning}
@@ -12,17 +12,17 @@ use Rattle.rv_isa.specs.Compressed.{expansion, instruction, sized}
 use Rattle.rv_isa.specs.declared.Instr.{Instr}
 use Rattle.rv_exec.specs.declared.Went.TheVariants.{Stop}
 use Rattle.flat_machine.specs.Effect.{effect}
-use Rattle.flat_machine.specs.Step.{◌>>=◌, half_at, lone_half}
-use Rattle.flat_machine.specs.Over.{one_in, effect_in, world_answers}
-use Rattle.rv_exec.specs.Follows.{Follows, word_at}
+use Rattle.flat_machine.specs.Step.{◌>>=◌, lone_half}
+use Rattle.flat_machine.specs.Over.{MemoryAnswers, one_in, effect_in}
+use Rattle.rv_exec.specs.Follows.{Follows, word_in}
 use Rattle.rv_exec.specs.Instruction.{effect_by, effect_of_code}
 
-pub follows_err : (shows : World → Type 0) (w : World) (old : Registers) (reason : Reason)
-    (o : Result (Registers × World) Reason) → o ≡ Err reason → shows w
-    → Follows shows w old old (Stop reason) o
-follows_err shows w old reason o e s =
-    subst (λ (x : Result (Registers × World) Reason). Follows shows w old old (Stop reason) x)
-    (sym e) (record { went_is = refl; registers = refl; world = s })
+pub follows_err : {M : Type 0} (shows : M → Type 0) (m : M) (old : Registers) (reason : Reason)
+    (o : Result (Registers × M) Reason) → o ≡ Err reason → shows m
+    → Follows shows m old old (Stop reason) o
+follows_err {M} shows m old reason o e s =
+    subst (λ (x : Result (Registers × M) Reason). Follows shows m old old (Stop reason) x)
+    (sym e) (record { went_is = refl; registers = refl; memory = s })
 
 -- a code is a word where its low halfword says so
 code_whole : (low high : ℕ) → eqb (low % 4) 3 ≡ true
@@ -38,11 +38,11 @@ code_lone : (low : ℕ) → eqb (low % 4) 3 ≡ false
 code_lone low is =
     ap (λ b. cond b (option_map (sized 4) (meaning low)) (option_map (sized 2) (expansion low))) is
 
-module _ (w : World) (t : ℕ) (r : Registers) where
-  abbrev rest : Option Instr × ℕ → Result (Registers × World) Reason
+module _ {M : Type 0} (answers : MemoryAnswers M) (m : M) (r : Registers) where
+  abbrev rest : Option Instr × ℕ → Result (Registers × M) Reason
   rest found = elim found.0 [
     | None ↦ Err (Fault 4)
-    | Some instr ↦ effect_in (world_answers t) w (effect instr found.1 r)
+    | Some instr ↦ effect_in answers m (effect instr found.1 r)
   ]
 
   abbrev words : Result ℕ Reason → Result ℕ Reason → Result ℕ Reason
@@ -61,7 +61,7 @@ module _ (w : World) (t : ℕ) (r : Registers) where
   alone low = Ok (lone_half low)
 
   by_effect : (o : Option Instr) (size : ℕ)
-      → rest (o, size) ≡ effect_in (world_answers t) w (effect_by (option_map (sized size) o) r)
+      → rest (o, size) ≡ effect_in answers m (effect_by (option_map (sized size) o) r)
   by_effect None size = refl
   by_effect (Some instr) size = refl
 
@@ -78,30 +78,30 @@ module _ (w : World) (t : ℕ) (r : Registers) where
       by_test false second q = cc
 
   ok_by : (first second : Result ℕ Reason) (word : ℕ) → Ok word ≡ words first second
-      → (found_in first second >>= rest) ≡ effect_in (world_answers t) w (effect_of_code word r)
+      → (found_in first second >>= rest) ≡ effect_in answers m (effect_of_code word r)
   ok_by (Err other) second word q = cc
   ok_by (Ok low) second word q = by_test (eqb (low % 4) 3) refl second q
     where
       by_test : (b : Bool) → eqb (low % 4) 3 ≡ b → (second : Result ℕ Reason)
           → Ok word ≡ cond b (second >>= λ high. Ok (low + 2 ^ 16 * high)) (Ok low)
           → (cond b (second >>= decoded low) (alone low) >>= rest)
-          ≡ effect_in (world_answers t) w (effect_of_code word r)
+          ≡ effect_in answers m (effect_of_code word r)
       by_test true is (Ok high) q = let e : word ≡ low + 2 ^ 16 * high = cc in
           by_effect (meaning (low + 2 ^ 16 * high)) 4
-          ∙ ap (λ o. effect_in (world_answers t) w (effect_by o r)) (sym (code_whole low high is))
-          ∙ ap (λ x. effect_in (world_answers t) w (effect_of_code x r)) (sym e)
+          ∙ ap (λ o. effect_in answers m (effect_by o r)) (sym (code_whole low high is))
+          ∙ ap (λ x. effect_in answers m (effect_of_code x r)) (sym e)
       by_test true is (Err other) q = cc
       by_test false is second q =
           let e : word ≡ low = cc in
           by_effect (expansion low) 2
-          ∙ ap (λ o. effect_in (world_answers t) w (effect_by o r)) (sym (code_lone low is))
-          ∙ ap (λ x. effect_in (world_answers t) w (effect_of_code x r)) (sym e)
+          ∙ ap (λ o. effect_in answers m (effect_by o r)) (sym (code_lone low is))
+          ∙ ap (λ x. effect_in answers m (effect_of_code x r)) (sym e)
 
-  pub one_err : (reason : Reason) → Err reason ≡ word_at w t r.pc
-      → one_in (world_answers t) r w ≡ Err reason
+  pub one_err : (reason : Reason) → Err reason ≡ word_in answers m r.pc
+      → one_in answers r m ≡ Err reason
   one_err reason h = ap (λ x. x >>= rest)
-      (err_by (half_at w t r.pc) (half_at w t ((r.pc + 2) % 2 ^ 32)) reason h)
+      (err_by (answers.fetch m r.pc) (answers.fetch m ((r.pc + 2) % 2 ^ 32)) reason h)
 
-  pub one_word : (word : ℕ) → Ok word ≡ word_at w t r.pc
-      → one_in (world_answers t) r w ≡ effect_in (world_answers t) w (effect_of_code word r)
-  one_word word h = ok_by (half_at w t r.pc) (half_at w t ((r.pc + 2) % 2 ^ 32)) word h
+  pub one_word : (word : ℕ) → Ok word ≡ word_in answers m r.pc
+      → one_in answers r m ≡ effect_in answers m (effect_of_code word r)
+  one_word word h = ok_by (answers.fetch m r.pc) (answers.fetch m ((r.pc + 2) % 2 ^ 32)) word h

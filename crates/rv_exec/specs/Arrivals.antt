@@ -1,13 +1,14 @@
 -- Where an instruction at pc leads, with pc beside the registers and not in them. This project's
 -- own words.
 use Rattle.std.specs.Prelude.{ℕ, ◌+◌, ◌%◌, ◌^◌}
-use Rattle.dos_world.specs.World.{World, Registers, with_pc}
+use Rattle.dos_world.specs.World.{Registers, with_pc}
 use Rattle.dos_world.specs.declared.Reason.{Reason}
 use Rattle.rv_exec.specs.declared.Went.{Went}
 use Rattle.rv_exec.specs.declared.Went.TheVariants.{Step, Stop}
 use Rattle.rv_exec.specs.declared.next.Next.{Next}
 use Rattle.rv_exec.specs.declared.next.Next.TheVariants.{On, Short, To, Not}
 use Rattle.flat_machine.specs.Effect.{Effect}
+use Rattle.flat_machine.specs.Over.{MemoryAnswers}
 use Rattle.rv_exec.specs.Instruction.{Settles, Performs}
 
 -- The registers with pc where an instruction of this size leads; a short one has two bytes,
@@ -47,13 +48,14 @@ abbrev pub SettlesAt : ℕ → Next → Reason → Registers → Registers → (
 SettlesAt pc next why old new e = SettlesBy 4 pc next why old new e
 
 -- The same by any instruction, on a memory that shows old before and new afterwards.
-abbrev pub PerformsBy : {Fixed : Type 0} → (Fixed → ℕ → World → Type 0)
-    → (Fixed → ℕ → World → Type 0) → (size pc : ℕ) → (r after : Registers) → Next → Reason
+abbrev pub PerformsBy : {Fixed M : Type 0} → (Fixed → MemoryAnswers M)
+    → (old new : Fixed → M → Type 0) → (size pc : ℕ) → (r after : Registers) → Next → Reason
     → (Registers → Effect) → Type 0
-PerformsBy old new size pc r after next why e = Performs old new (with_pc r pc)
+PerformsBy answers old new size pc r after next why e = Performs answers old new (with_pc r pc)
     (arrived_by size after pc next) (went next why) (e (with_pc r pc))
 
-abbrev pub PerformsAt : {Fixed : Type 0} → (Fixed → ℕ → World → Type 0)
-    → (Fixed → ℕ → World → Type 0) → ℕ → (r after : Registers) → Next → Reason
+abbrev pub PerformsAt : {Fixed M : Type 0} → (Fixed → MemoryAnswers M)
+    → (old new : Fixed → M → Type 0) → ℕ → (r after : Registers) → Next → Reason
     → (Registers → Effect) → Type 0
-PerformsAt old new pc r after next why e = PerformsBy old new 4 pc r after next why e
+PerformsAt answers old new pc r after next why e =
+    PerformsBy answers old new 4 pc r after next why e

@@ -1,13 +1,13 @@
 -- One instruction by its code. This project's own way to put the manual's instructions.
 use Rattle.std.specs.Prelude.{ℕ, ◌≡◌, Option, Some, None}
-use Rattle.dos_world.specs.World.{World, Registers}
+use Rattle.dos_world.specs.World.{Registers}
 use Rattle.dos_world.specs.declared.Reason.TheVariants.{Fault}
 use Rattle.rv_isa.specs.declared.Instr.{Instr}
 use Rattle.rv_isa.specs.Compressed.{instruction}
 use Rattle.rv_form.specs.declared.form.Form.{Form}
 use Rattle.rv_form.specs.Forms.{instr_of_form}
 use Rattle.flat_machine.specs.Effect.{Effect, goes, loads, stores, claims, stops, effect}
-use Rattle.flat_machine.specs.Over.{effect_in, world_answers}
+use Rattle.flat_machine.specs.Over.{MemoryAnswers, effect_in}
 use Rattle.rv_exec.specs.Follows.{Follows}
 use Rattle.rv_exec.specs.declared.Went.{Went}
 use Rattle.rv_exec.specs.declared.Went.TheVariants.{Step, Stop}
@@ -34,10 +34,9 @@ Settles went old new (loads address size next) = ⊥
 Settles went old new (stores address size value r) = ⊥
 Settles went old new (claims address next word) = ⊥
 
--- On a memory that shows old before and new afterwards, for whatever stands still in it, each
--- thread and each world: what
--- is left of the registers r is what the effect says.
-abbrev pub Performs : {Fixed : Type 0} → (Fixed → ℕ → World → Type 0) → (Fixed → ℕ → World → Type 0)
-    → (r after : Registers) → Went → Effect → Type 0
-Performs old new r after went e = (f : _) (t : ℕ) (w : World) → old f t w
-    → Follows (new f t) w r after went (effect_in (world_answers t) w e)
+-- On a memory that shows old before and new afterwards, for whatever stands still in it and each
+-- state of it: what is left of the registers r is what the effect says, by the memory's answers.
+abbrev pub Performs : {Fixed M : Type 0} → (Fixed → MemoryAnswers M)
+    → (old new : Fixed → M → Type 0) → (r after : Registers) → Went → Effect → Type 0
+Performs answers old new r after went e = (f : _) (m : _) → old f m
+    → Follows (new f) m r after went (effect_in (answers f) m e)

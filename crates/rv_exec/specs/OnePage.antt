@@ -1,11 +1,9 @@
 -- The memory of a thread that has one page, of frame 0, which is the only one: what the memory of
 -- the tests shows.
 use Rattle.std.specs.Prelude.{ℕ, ◌≡◌, ◌/◌, Option, Some, None, false, ◌==◌, if◌then◌else◌}
-use Rattle.std.proofs.Common.{◌∙◌}
-use Rattle.dos_world.specs.World.{World, Thread, with_thread, entry_at, owner_of}
+use Rattle.dos_world.specs.World.{World, entry_at, owner_of}
 use Rattle.dos_world.specs.declared.Entry.{Entry}
 use Rattle.rv_exec.specs.declared.one_page.OnePage.{OnePage}
-use Rattle.flat_machine.specs.Blind.{entry_at-with_thread}
 
 -- the one page's entry
 abbrev pub entry_of : OnePage → Entry
@@ -21,13 +19,3 @@ pub record IsOnePage (m : OnePage) (t : ℕ) (w : World) : Type 0 where
   pub is_entry : (address : ℕ) → entry_at w t address ≡ entry_of_page m address
   pub is_owner : owner_of w 0 ≡ m.owner
   pub are_bytes : w.bytes ≡ m.bytes.value
-
-pub blind : (m : OnePage) (t : ℕ) (w : World) (change : Thread → Thread)
-    → ((thread : Thread) → (change thread).process ≡ thread.process) → IsOnePage m t w
-    → IsOnePage m t (with_thread w t change)
-blind m t w change same shown = record {
-  is_thread = shown.is_thread;
-  is_entry = λ address. entry_at-with_thread w t change same address ∙ shown.is_entry address;
-  is_owner = shown.is_owner;
-  are_bytes = shown.are_bytes;
-}

@@ -1,10 +1,16 @@
--- A thread that runs on a memory. This project's own words.
+-- A thread that runs on a memory which shows the flat world. This project's own words.
 use Rattle.std.specs.Prelude.{ℕ, ◌≡◌, ◌-◌, Some, Result, Ok, Err, option_map}
 use Rattle.dos_world.specs.World.{World, Registers, thread_at}
 use Rattle.dos_world.specs.declared.Reason.{Reason}
 use Rattle.flat_machine.specs.Laws.{kept}
+use Rattle.flat_machine.specs.Over.{world_answers}
+use Rattle.rv_exec.specs.Follows.{word_in}
 use Rattle.rv_exec.specs.declared.Went.{Went}
 use Rattle.rv_exec.specs.declared.Went.TheVariants.{Step, Stop}
+
+-- the word at pc as t fetches it, or the halfword alone where it is no word's
+abbrev pub word_at : World → ℕ → ℕ → Result ℕ Reason
+word_at w t pc = word_in (world_answers t) w pc
 
 -- The memory shows this world, in which t has these registers and this budget.
 pub record Runs (shows : World → Type 0) (w : World) (t : ℕ) (r : Registers)

@@ -23,8 +23,8 @@ use rv_isa::{AmoOp, BranchOp, ImmOp, LoadOp, RegOp, ShiftOp, StoreOp};
 #[tactic(auto, unfolding(flat_machine::specs::Effect::effect, rv_form::specs::Forms::instr_of))]
 fn access_by_form<M: Memory>(regs: &mut Regs, memory: &mut M, form: &Form, why: &mut Reason) -> Next
     requires { IsAccess form.now.op }
-    ensures { (pc : ℕ) → PerformsAt (M.shows memory.old) (M.shows memory.new) pc regs.old regs.new
-        result why.new (effect_of_form form.now) }
+    ensures { (pc : ℕ) → PerformsAt M.answers (M.shows memory.old) (M.shows memory.new) pc
+        regs.old regs.new result why.new (effect_of_form form.now) }
 {
     match form.op {
         Op::Lb => load(regs, memory, form, LoadOp::Lb, why),
@@ -44,8 +44,8 @@ fn access_by_form<M: Memory>(regs: &mut Regs, memory: &mut M, form: &Form, why: 
 #[tactic(auto, unfolding(flat_machine::specs::Effect::effect, rv_form::specs::Forms::instr_of))]
 fn amo_by_form<M: Memory>(regs: &mut Regs, memory: &mut M, form: &Form, why: &mut Reason) -> Next
     requires { IsAmo form.now.op }
-    ensures { (pc : ℕ) → PerformsAt (M.shows memory.old) (M.shows memory.new) pc regs.old regs.new
-        result why.new (effect_of_form form.now) }
+    ensures { (pc : ℕ) → PerformsAt M.answers (M.shows memory.old) (M.shows memory.new) pc
+        regs.old regs.new result why.new (effect_of_form form.now) }
 {
     match form.op {
         Op::AmoswapW => atomic(regs, memory, form, AmoOp::AmoswapW, why),
@@ -138,8 +138,8 @@ pub fn perform_form<M: Memory>(
     pc: u32,
     why: &mut Reason,
 ) -> Next
-    ensures { PerformsAt (M.shows memory.old) (M.shows memory.new) pc regs.old regs.new result
-        why.new (effect_of_form form.now) }
+    ensures { PerformsAt M.answers (M.shows memory.old) (M.shows memory.new) pc regs.old regs.new
+        result why.new (effect_of_form form.now) }
 {
     match form.op {
         Op::Illegal => fault(why, 4),

@@ -1,32 +1,37 @@
 // What an instruction needs of memory.
-ghost use Rattle.std.specs.Prelude.{◌≡◌, ℕ};
-ghost use Rattle.dos_world.specs.World.{World, Thread, with_thread};
-ghost use Rattle.flat_machine.specs.Step.{half_at, load_at, store_at, claim_at};
-ghost use Rattle.rv_exec.specs.Follows.{word_at, answer_of_store, after_of};
+ghost use Rattle.std.specs.Prelude.{◌≡◌};
+ghost use Rattle.flat_machine.specs.Over.{MemoryAnswers};
+ghost use Rattle.rv_exec.specs.Follows.{word_in, answer_of_store, after_of};
 
 use dos_world::{Reason, Size};
 
-/// The memory of one thread. Each call answers as the flat world does, for every world that the
-/// memory shows: misaligned is fault 7, a page that isn't mapped or lacks the right is fault 11,
-/// and another thread's page is `Reason::Page`. After an error the memory shows what it showed
-/// before.
+/// The memory of one thread. What its calls answer is a definition's, `answers`, for every state
+/// that the memory shows: the flat world's, say, by which misaligned is fault 7, a page that isn't
+/// mapped or lacks the right is fault 11, and another thread's page is `Reason::Page`. After an
+/// error the memory shows what it showed before.
 pub trait Memory {
     /// What the calls leave as it is, as the frames and spaces that are lent to a thread.
     ghost Fixed: { Type 0 };
 
-    /// Which thread's memory it is, and in which worlds.
-    ghost shows: { Self → Fixed → ℕ → World → Type 0 };
+    /// What they change, as the bytes of all frames.
+    ghost State: { Type 0 };
+
+    /// What they answer.
+    ghost answers: { Fixed → MemoryAnswers State };
+
+    /// What stands still, and in which state the memory may be.
+    ghost shows: { Self → Fixed → State → Type 0 };
 
     /// Two bytes of an instruction, at a multiple of 2.
     fn fetch_half(&mut self, address: u32) -> Result<u16, Reason>
-        ensures { (f : Fixed) (t : ℕ) (w : World) → shows self.old f t w
-            → shows self.new f t w × (result ≡ half_at w t address) };
+        ensures { (f : Fixed) (m : State) → shows self.old f m
+            → shows self.new f m × (result ≡ (answers f).fetch m address) };
 
     /// The word of an instruction, as its two halfwords one after another; the first alone where
     /// its low two bits aren't 11.
     fn fetch_word(&mut self, address: u32) -> Result<u32, Reason>
-        ensures { (f : Fixed) (t : ℕ) (w : World) → shows self.old f t w
-            → shows self.new f t w × (result ≡ word_at w t address) }
+        ensures { (f : Fixed) (m : State) → shows self.old f m
+            → shows self.new f m × (result ≡ word_in (answers f) m address) }
     {
         match self.fetch_half(address) {
             Err(reason) => Err(reason),
@@ -44,22 +49,17 @@ pub trait Memory {
 
     /// The number at an address, zero-extended.
     fn load(&mut self, address: u32, size: Size) -> Result<u32, Reason>
-        ensures { (f : Fixed) (t : ℕ) (w : World) → shows self.old f t w
-            → shows self.new f t w × (result ≡ load_at w t address size) };
+        ensures { (f : Fixed) (m : State) → shows self.old f m
+            → shows self.new f m × (result ≡ (answers f).load m address size) };
 
     /// The low bytes of the value are stored.
     fn store(&mut self, address: u32, size: Size, value: u32) -> Result<(), Reason>
-        ensures { (f : Fixed) (t : ℕ) (w : World) → shows self.old f t w
-            → shows self.new f t (after_of w (store_at w t address size value))
-            × (result ≡ answer_of_store (store_at w t address size value)) };
+        ensures { (f : Fixed) (m : State) → shows self.old f m
+            → shows self.new f (after_of m ((answers f).store m address size value))
+            × (result ≡ answer_of_store ((answers f).store m address size value)) };
 
     /// The word at an address; a word that is stored there next is stored.
     fn claim(&mut self, address: u32) -> Result<u32, Reason>
-        ensures { (f : Fixed) (t : ℕ) (w : World) → shows self.old f t w
-            → shows self.new f t w × (result ≡ claim_at w t address) };
-
-    /// The registers and the budget of a thread are no part of memory.
-    ghost blind: { (m : Self) (f : Fixed) (t : ℕ) (w : World) (change : Thread → Thread)
-        → ((thread : Thread) → (change thread).process ≡ thread.process)
-        → shows m f t w → shows m f t (with_thread w t change) };
+        ensures { (f : Fixed) (m : State) → shows self.old f m
+            → shows self.new f m × (result ≡ (answers f).claim m address) };
 }

@@ -1,11 +1,11 @@
 // What the instructions that read or write memory do, by their forms, with pc beside the registers.
 ghost use Rattle.std.specs.Prelude.{◌≡◌, ◌≢◌, ◌<◌, ℕ, Some, None, false};
-ghost use Rattle.dos_world.specs.World.{World, get, set, with_pc, with_held};
+ghost use Rattle.dos_world.specs.World.{get, set, with_pc, with_held};
 ghost use Rattle.rv_isa.specs.declared.Instr.TheVariants.{Load, Store, Amo};
 ghost use Rattle.rv_isa.specs.declared.AmoOp.TheVariants.{LrW, ScW};
 ghost use Rattle.flat_machine.specs.Effect as effects;
 ghost use Rattle.flat_machine.specs.Effect.{effect, combined, onward};
-ghost use Rattle.flat_machine.specs.Over.{effect_in, world_answers};
+ghost use Rattle.flat_machine.specs.Over.{effect_in};
 ghost use Rattle.rv_exec.specs.Follows.{Follows};
 ghost use Rattle.rv_exec.specs.Arrivals.{PerformsAt, PerformsBy};
 
@@ -34,7 +34,7 @@ pub fn load<M: Memory>(
     op: LoadOp,
     why: &mut Reason,
 ) -> Next
-    ensures { (size pc : ℕ) → PerformsBy (M.shows memory.old) (M.shows memory.new) size pc
+    ensures { (size pc : ℕ) → PerformsBy M.answers (M.shows memory.old) (M.shows memory.new) size pc
         regs.old regs.new result why.new
         (effect (Load op form.now.rd form.now.rs1 form.now.imm) size) }
 {
@@ -60,7 +60,7 @@ pub fn store<M: Memory>(
     op: StoreOp,
     why: &mut Reason,
 ) -> Next
-    ensures { (size pc : ℕ) → PerformsBy (M.shows memory.old) (M.shows memory.new) size pc
+    ensures { (size pc : ℕ) → PerformsBy M.answers (M.shows memory.old) (M.shows memory.new) size pc
         regs.now regs.now result why.new
         (λ r. effects.stores (effects.plus (get r form.now.rs1) form.now.imm)
         (effects.store_size op) (get r form.now.rs2) (onward size r)) }
@@ -95,8 +95,8 @@ fn load_reserved<M: Memory>(
     address: u32,
     why: &mut Reason,
 ) -> Next
-    ensures { (pc : ℕ) → PerformsAt (M.shows memory.old) (M.shows memory.new) pc regs.old regs.new
-        result why.new (λ r. effects.link form.now.rd address (onward 4 r)) }
+    ensures { (pc : ℕ) → PerformsAt M.answers (M.shows memory.old) (M.shows memory.new) pc
+        regs.old regs.new result why.new (λ r. effects.link form.now.rd address (onward 4 r)) }
 {
     let claimed = memory.claim(address);
     match claimed {
@@ -132,8 +132,8 @@ fn store_conditional<M: Memory>(
     value: u32,
     why: &mut Reason,
 ) -> Next
-    ensures { (pc : ℕ) → PerformsAt (M.shows memory.old) (M.shows memory.new) pc regs.old regs.new
-        result why.new (λ r. effects.conditional form.now.rd address value
+    ensures { (pc : ℕ) → PerformsAt M.answers (M.shows memory.old) (M.shows memory.new) pc
+        regs.old regs.new result why.new (λ r. effects.conditional form.now.rd address value
         (effects.is_held r.held address) (onward 4 r)) }
 {
     match memory.claim(address) {
@@ -191,8 +191,8 @@ fn exchange<M: Memory>(
     value: u32,
     why: &mut Reason,
 ) -> Next
-    ensures { (pc : ℕ) → PerformsAt (M.shows memory.old) (M.shows memory.new) pc regs.old regs.new
-        result why.new (λ r. effects.exchange form.now.rd address
+    ensures { (pc : ℕ) → PerformsAt M.answers (M.shows memory.old) (M.shows memory.new) pc
+        regs.old regs.new result why.new (λ r. effects.exchange form.now.rd address
         (λ old. combined op old value) (onward 4 r)) }
 {
     match memory.claim(address) {
@@ -222,8 +222,9 @@ pub fn atomic<M: Memory>(
     op: AmoOp,
     why: &mut Reason,
 ) -> Next
-    ensures { (pc : ℕ) → PerformsAt (M.shows memory.old) (M.shows memory.new) pc regs.old regs.new
-        result why.new (λ r. effects.atomic op form.now.rd (get r form.now.rs1) (get r form.now.rs2)
+    ensures { (pc : ℕ) → PerformsAt M.answers (M.shows memory.old) (M.shows memory.new) pc
+        regs.old regs.new result why.new (λ r. effects.atomic op form.now.rd (get r form.now.rs1)
+        (get r form.now.rs2)
         (onward 4 r)) }
 {
     let address = first(regs, form);

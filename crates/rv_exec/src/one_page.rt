@@ -109,13 +109,17 @@ impl OnePage {
 impl Memory for OnePage {
     ghost use Rattle.std.specs.Prelude.{ℕ};
     ghost use Rattle.dos_world.specs.World.{World};
-    ghost use Rattle.rv_exec.specs.OnePage.{IsOnePage, blind};
+    ghost use Rattle.rv_exec.specs.OnePage.{IsOnePage};
+    ghost use Rattle.flat_machine.specs.Over.{world_answers};
 
-    ghost Fixed = { Unit {0} };
+    // which thread's memory it is
+    ghost Fixed = { ℕ };
 
-    ghost shows = { λ m fixed t w. IsOnePage m t w };
+    ghost State = { World };
 
-    ghost blind = { λ m fixed t w change same shown. blind m t w change same shown };
+    ghost answers = { world_answers };
+
+    ghost shows = { λ m t w. IsOnePage m t w };
 
     fn fetch_half(&mut self, address: u32) -> Result<u16, Reason> {
         match self.find(address, Size::Half, Access::Fetch) {

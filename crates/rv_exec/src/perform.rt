@@ -1,12 +1,10 @@
 // One instruction over any memory.
-ghost use Rattle.std.specs.Prelude.{◌≡◌, ℕ};
-ghost use Rattle.dos_world.specs.World.{World, with_pc};
+ghost use Rattle.std.specs.Prelude.{◌≡◌, ℕ, Ok};
+ghost use Rattle.dos_world.specs.World.{with_pc};
 ghost use Rattle.rv_form.specs.Forms.{IsFormOf};
-ghost use Rattle.flat_machine.specs.Over.{one_in, world_answers};
-ghost use Rattle.rv_exec.specs.Follows.{Follows, word_at};
+ghost use Rattle.flat_machine.specs.Over.{one_in};
+ghost use Rattle.rv_exec.specs.Follows.{Follows, word_in};
 ghost use Rattle.rv_exec.specs.Arrivals.{arrived, went};
-ghost use Rattle.rv_exec.specs.Runs.{Runs, Steps};
-ghost use Rattle.flat_machine.specs.Step.{step};
 
 use crate::form_perform::{arrive, perform_form};
 use crate::{Memory, Next, Went};
@@ -16,9 +14,9 @@ use rv_form::{Form, form_of};
 /// The code at pc is fetched and decoded, a word or a halfword alone, and its instruction done.
 #[inline(always)]
 fn fetch_and_perform<M: Memory>(regs: &mut Regs, memory: &mut M, pc: u32, why: &mut Reason) -> Next
-    ensures { (f : M.Fixed) (t : ℕ) (w : World) → M.shows memory.old f t w
-        → Follows (M.shows memory.new f t) w (with_pc regs.old pc) (arrived regs.new pc result)
-        (went result why.new) (one_in (world_answers t) (with_pc regs.old pc) w) }
+    ensures { (f : M.Fixed) (m : M.State) → M.shows memory.old f m
+        → Follows (M.shows memory.new f) m (with_pc regs.old pc) (arrived regs.new pc result)
+        (went result why.new) (one_in (M.answers f) (with_pc regs.old pc) m) }
 {
     match memory.fetch_word(pc) {
         Ok(word) => {
@@ -36,16 +34,13 @@ fn fetch_and_perform<M: Memory>(regs: &mut Regs, memory: &mut M, pc: u32, why: &
 /// memory after it, or why it stops, with nothing changed. Fault 4 is an illegal instruction, fault
 /// 5 an ebreak, fault 7 a misaligned access or a jump to a misaligned target, fault 11 a page that
 /// isn't mapped or lacks the right; `Reason::Page` is another thread's page, and `Reason::Service`
-/// an ecall. `over` says it of the answers of memory; `step` of the thread's step on the flat
-/// world, which also takes one of its budget.
+/// an ecall. Over the flat world it is the thread's step, which also takes one of its budget
+/// (round_core's law `steps_are_one_over_the_world`).
 #[inline(always)]
 pub fn one<M: Memory>(regs: &mut Regs, memory: &mut M) -> Went
-    ensures over { (f : M.Fixed) (t : ℕ) (w : World) → M.shows memory.old f t w
-        → Follows (M.shows memory.new f t) w regs.old regs.new result
-        (one_in (world_answers t) regs.old w) }
-    ensures step { (f : M.Fixed) (t : ℕ) (w : World) (budget : ℕ)
-        → Runs (M.shows memory.old f t) w t regs.old budget
-        → Steps (M.shows memory.new f t) w t regs.new budget result (step w t) }
+    ensures { (f : M.Fixed) (m : M.State) → M.shows memory.old f m
+        → Follows (M.shows memory.new f) m regs.old regs.new result
+        (one_in (M.answers f) regs.old m) }
 {
     let pc = regs.pc();
     let mut why = Reason::Service;
@@ -64,11 +59,10 @@ pub fn one_known<M: Memory>(
     pc: u32,
     why: &mut Reason,
 ) -> Next
-    ensures { (f : M.Fixed) (t : ℕ) (w : World) (budget word : ℕ) → IsFormOf word form.now
-        → word_at w t pc ≡ Ok word
-        → Runs (M.shows memory.old f t) w t (with_pc regs.old pc) budget
-        → Steps (M.shows memory.new f t) w t (arrived regs.new pc result) budget
-        (went result why.new) (step w t) }
+    ensures { (f : M.Fixed) (m : M.State) (word : ℕ) → IsFormOf word form.now
+        → word_in (M.answers f) m pc ≡ Ok word → M.shows memory.old f m
+        → Follows (M.shows memory.new f) m (with_pc regs.old pc) (arrived regs.new pc result)
+        (went result why.new) (one_in (M.answers f) (with_pc regs.old pc) m) }
 {
     perform_form(regs, memory, form, pc, why)
 }

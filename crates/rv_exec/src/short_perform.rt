@@ -40,8 +40,8 @@ pub fn short_access_by_form<M: Memory>(
     why: &mut Reason,
 ) -> Next
     requires { IsShortAccess form.now.op }
-    ensures { (pc : ℕ) → PerformsAt (M.shows memory.old) (M.shows memory.new) pc regs.old regs.new
-        result why.new (effect_of_form form.now) }
+    ensures { (pc : ℕ) → PerformsAt M.answers (M.shows memory.old) (M.shows memory.new) pc
+        regs.old regs.new result why.new (effect_of_form form.now) }
 {
     match form.op {
         Op::ShortLw => behind_short(load(regs, memory, form, LoadOp::Lw, why)),

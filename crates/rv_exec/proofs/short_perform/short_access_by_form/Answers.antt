@@ -9,7 +9,8 @@ unfolding instr_of effect
 returns-in-ShortLw g c = λ pc.
     performs_short c.args.form.now op.ShortLw c.in-ShortLw.is pc c.args.regs.now
     c.load.new.regs c.load.result c.behind_short.result c.load.new.why
-    c.behind_short.ensures (g.M.Memory.shows c.args.memory.now)
+    c.behind_short.ensures g.M.Memory.answers
+    (g.M.Memory.shows c.args.memory.now)
     (g.M.Memory.shows c.load.new.memory) (c.load.ensures 2 pc)
 
 pub returns-in-ShortSw : goal.returns-in-ShortSw
@@ -17,5 +18,6 @@ unfolding instr_of effect
 returns-in-ShortSw g c = λ pc.
     performs_short c.args.form.now op.ShortSw c.in-ShortSw.is pc c.args.regs.now
     c.args.regs.now c.store.result c.behind_short-in-ShortSw.result c.store.new.why
-    c.behind_short-in-ShortSw.ensures (g.M.Memory.shows c.args.memory.now)
+    c.behind_short-in-ShortSw.ensures g.M.Memory.answers
+    (g.M.Memory.shows c.args.memory.now)
     (g.M.Memory.shows c.store.new.memory) (c.store.ensures 2 pc)
