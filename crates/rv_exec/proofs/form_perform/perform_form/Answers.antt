@@ -9,14 +9,15 @@ pub returns-in-Lui : goal.returns-in-Lui
 unfolding instr_of effect
 returns-in-Lui g c =
     settled c.args.form.now op.Lui c.in-Lui.is c.args.pc c.args.regs.now c.lui.new.regs c.lui.result
-    c.args.why.now g.M.Memory.answers (g.M.Memory.shows c.args.memory.now) (c.lui.ensures 4 c.args.pc c.args.why.now)
+    c.args.why.now g.M.Memory.answers (g.M.Memory.shows c.args.memory.now)
+    (c.lui.ensures 4 c.args.pc c.args.why.now)
 
 pub returns-in-Auipc : goal.returns-in-Auipc
 unfolding instr_of effect
 returns-in-Auipc g c =
     settled c.args.form.now op.Auipc c.in-Auipc.is c.args.pc c.args.regs.now c.auipc.new.regs
-    c.auipc.result c.args.why.now g.M.Memory.answers (g.M.Memory.shows c.args.memory.now) (c.auipc.ensures 4
-    c.args.why.now)
+    c.auipc.result c.args.why.now g.M.Memory.answers (g.M.Memory.shows c.args.memory.now)
+    (c.auipc.ensures 4 c.args.why.now)
 
 pub returns-in-Jal : goal.returns-in-Jal
 unfolding instr_of effect
@@ -35,43 +36,43 @@ pub returns-in-Beq : goal.returns-in-Beq
 unfolding instr_of effect
 returns-in-Beq g c =
     settled c.args.form.now op.Beq c.in-Beq.is c.args.pc c.args.regs.now c.args.regs.now
-    c.branch-regs.result c.branch-regs.new.why g.M.Memory.answers (g.M.Memory.shows c.args.memory.now)
-    (c.branch-regs.ensures 4)
+    c.branch-regs.result c.branch-regs.new.why g.M.Memory.answers
+    (g.M.Memory.shows c.args.memory.now) (c.branch-regs.ensures 4)
 
 pub returns-in-Bne : goal.returns-in-Bne
 unfolding instr_of effect
 returns-in-Bne g c =
     settled c.args.form.now op.Bne c.in-Bne.is c.args.pc c.args.regs.now c.args.regs.now
-    c.branch-regs-in-Bne.result c.branch-regs-in-Bne.new.why g.M.Memory.answers (g.M.Memory.shows c.args.memory.now)
-    (c.branch-regs-in-Bne.ensures 4)
+    c.branch-regs-in-Bne.result c.branch-regs-in-Bne.new.why g.M.Memory.answers
+    (g.M.Memory.shows c.args.memory.now) (c.branch-regs-in-Bne.ensures 4)
 
 pub returns-in-Blt : goal.returns-in-Blt
 unfolding instr_of effect
 returns-in-Blt g c =
     settled c.args.form.now op.Blt c.in-Blt.is c.args.pc c.args.regs.now c.args.regs.now
-    c.branch-regs-in-Blt.result c.branch-regs-in-Blt.new.why g.M.Memory.answers (g.M.Memory.shows c.args.memory.now)
-    (c.branch-regs-in-Blt.ensures 4)
+    c.branch-regs-in-Blt.result c.branch-regs-in-Blt.new.why g.M.Memory.answers
+    (g.M.Memory.shows c.args.memory.now) (c.branch-regs-in-Blt.ensures 4)
 
 pub returns-in-Bge : goal.returns-in-Bge
 unfolding instr_of effect
 returns-in-Bge g c =
     settled c.args.form.now op.Bge c.in-Bge.is c.args.pc c.args.regs.now c.args.regs.now
-    c.branch-regs-in-Bge.result c.branch-regs-in-Bge.new.why g.M.Memory.answers (g.M.Memory.shows c.args.memory.now)
-    (c.branch-regs-in-Bge.ensures 4)
+    c.branch-regs-in-Bge.result c.branch-regs-in-Bge.new.why g.M.Memory.answers
+    (g.M.Memory.shows c.args.memory.now) (c.branch-regs-in-Bge.ensures 4)
 
 pub returns-in-Bltu : goal.returns-in-Bltu
 unfolding instr_of effect
 returns-in-Bltu g c =
     settled c.args.form.now op.Bltu c.in-Bltu.is c.args.pc c.args.regs.now c.args.regs.now
-    c.branch-regs-in-Bltu.result c.branch-regs-in-Bltu.new.why g.M.Memory.answers (g.M.Memory.shows c.args.memory.now)
-    (c.branch-regs-in-Bltu.ensures 4)
+    c.branch-regs-in-Bltu.result c.branch-regs-in-Bltu.new.why g.M.Memory.answers
+    (g.M.Memory.shows c.args.memory.now) (c.branch-regs-in-Bltu.ensures 4)
 
 pub returns-in-Bgeu : goal.returns-in-Bgeu
 unfolding instr_of effect
 returns-in-Bgeu g c =
     settled c.args.form.now op.Bgeu c.in-Bgeu.is c.args.pc c.args.regs.now c.args.regs.now
-    c.branch-regs-in-Bgeu.result c.branch-regs-in-Bgeu.new.why g.M.Memory.answers (g.M.Memory.shows c.args.memory.now)
-    (c.branch-regs-in-Bgeu.ensures 4)
+    c.branch-regs-in-Bgeu.result c.branch-regs-in-Bgeu.new.why g.M.Memory.answers
+    (g.M.Memory.shows c.args.memory.now) (c.branch-regs-in-Bgeu.ensures 4)
 
 pub returns-in-Lb : goal.returns-in-Lb
 returns-in-Lb g c = c.access_by_form.ensures c.args.pc
@@ -79,17 +80,20 @@ returns-in-Lb g c = c.access_by_form.ensures c.args.pc
 pub returns-in-Addi : goal.returns-in-Addi
 returns-in-Addi g c =
     settled c.args.form.now c.args.form.now.op refl c.args.pc c.args.regs.now
-    c.immediate_by_form.new.regs c.immediate_by_form.result c.args.why.now g.M.Memory.answers (g.M.Memory.shows c.args.memory.now) (c.immediate_by_form.ensures c.args.pc c.args.why.now)
+    c.immediate_by_form.new.regs c.immediate_by_form.result c.args.why.now g.M.Memory.answers
+    (g.M.Memory.shows c.args.memory.now) (c.immediate_by_form.ensures c.args.pc c.args.why.now)
 
 pub returns-in-Add : goal.returns-in-Add
 returns-in-Add g c =
     settled c.args.form.now c.args.form.now.op refl c.args.pc c.args.regs.now
-    c.register_by_form.new.regs c.register_by_form.result c.args.why.now g.M.Memory.answers (g.M.Memory.shows c.args.memory.now) (c.register_by_form.ensures c.args.pc c.args.why.now)
+    c.register_by_form.new.regs c.register_by_form.result c.args.why.now g.M.Memory.answers
+    (g.M.Memory.shows c.args.memory.now) (c.register_by_form.ensures c.args.pc c.args.why.now)
 
 pub returns-in-Mul : goal.returns-in-Mul
 returns-in-Mul g c =
     settled c.args.form.now c.args.form.now.op refl c.args.pc c.args.regs.now
-    c.multiply_by_form.new.regs c.multiply_by_form.result c.args.why.now g.M.Memory.answers (g.M.Memory.shows c.args.memory.now) (c.multiply_by_form.ensures c.args.pc c.args.why.now)
+    c.multiply_by_form.new.regs c.multiply_by_form.result c.args.why.now g.M.Memory.answers
+    (g.M.Memory.shows c.args.memory.now) (c.multiply_by_form.ensures c.args.pc c.args.why.now)
 
 pub returns-in-LrW : goal.returns-in-LrW
 unfolding instr_of effect
