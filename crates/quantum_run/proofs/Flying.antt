@@ -19,10 +19,10 @@ use Rattle.flat_machine.specs.Effect.{Effect, goes, loads, stores, claims, stops
 use Rattle.flat_machine.specs.Effect.{load_result, load_size, plus, store_size}
 use Rattle.flat_machine.specs.Over.{effect_in, world_answers}
 use Rattle.flat_machine.specs.Step.{◌>>=◌, load_at, step, store_at}
-use Rattle.rv_exec.specs.Follows.{Follows, word_at}
+use Rattle.rv_exec.specs.Follows.{Follows}
 use Rattle.rv_exec.specs.Instruction.{Settles, Performs, effect_by, effect_of_form}
 use Rattle.rv_exec.specs.Arrivals.{SettlesBy, arrived_by}
-use Rattle.rv_exec.specs.Runs.{Runs, Steps}
+use Rattle.rv_exec.specs.Runs.{Runs, Steps, word_at}
 use Rattle.rv_exec.specs.declared.Went.{Went}
 use Rattle.rv_exec.specs.declared.Went.TheVariants.{Step, Stop}
 use Rattle.rv_exec.specs.declared.next.Next.{Next}
@@ -43,11 +43,12 @@ module _ {Fixed : Type 0} (shows : Fixed → ℕ → World → Type 0) (size pc 
   -- what makes no access leaves every memory as it is
   performs : (next : Next) (answer : Went) (e : Effect)
       → Settles answer (with_pc r pc) (arrived_by size after pc next) e
-      → Performs shows shows (with_pc r pc) (arrived_by size after pc next) answer e
+      → Performs (λ (f : Fixed × ℕ). world_answers f.1) (λ f. shows f.0 f.1) (λ f. shows f.0 f.1)
+      (with_pc r pc) (arrived_by size after pc next) answer e
   performs next answer (goes r') settles =
-      λ f t w shown. record { went_is = settles.0; registers = settles.1; world = shown }
+      λ f w shown. record { went_is = settles.0; registers = settles.1; memory = shown }
   performs next answer (stops reason) settles =
-      λ f t w shown. record { went_is = settles.0; registers = settles.1; world = shown }
+      λ f w shown. record { went_is = settles.0; registers = settles.1; memory = shown }
   performs next answer (loads address n to) settles = absurd settles
   performs next answer (stores address n value r') settles = absurd settles
   performs next answer (claims address to new) settles = absurd settles
@@ -117,8 +118,8 @@ module _ (before after : World → Type 0) (t : ℕ)
       steps before after t blind u (with_pc r pc) left budget Step
       (λ shown. subst (λ (o : Result (Registers × World) Reason).
       Follows after u (with_pc r pc) left Step o)
-      (sym (one_word u t (with_pc r pc) code (sym is)))
-      (of_form after u t (with_pc r pc) left code form Step of (does shown)))
+      (sym (one_word (world_answers t) u (with_pc r pc) code (sym is)))
+      (of_form (world_answers t) after u (with_pc r pc) left code form Step of (does shown)))
       runs
 
 -- ---- by the operation of a form that stands for some instruction
@@ -184,7 +185,9 @@ pub loaded : {Fixed : Type 0} (shows : Fixed → ℕ → World → Type 0) (op :
     → (size pc : ℕ) → DoneOrNot shows shows size pc r after On (effect (Load op rd rs1 imm) size)
 unfolding effect
 loaded shows op rd rs1 imm address number value width r after to wide answers is put size pc =
-    λ f t w shown.
+    λ all w shown.
+    let f = all.0 in
+    let t = all.1 in
     let there : load_at w t (plus (get r rs1) imm) (load_size op) ≡ Ok number =
     ap (λ a. load_at w t a (load_size op)) (sym to) ∙ ap (load_at w t address) (sym wide)
     ∙ answers f t w shown in
@@ -194,7 +197,7 @@ loaded shows op rd rs1 imm address number value width r after to wide answers is
     (record {
       went_is = refl;
       registers = put behind ∙ ap (set (with_pc r behind) rd) is;
-      world = shown;
+      memory = shown;
     })
 
 pub stored : {Fixed : Type 0} (old new : Fixed → ℕ → World → Type 0) (op : StoreOp)
@@ -205,7 +208,9 @@ pub stored : {Fixed : Type 0} (old new : Fixed → ℕ → World → Type 0) (op
     → (size pc : ℕ) → DoneOrNot old new size pc r r On (effect (Store op rs1 rs2 imm) size)
 unfolding effect
 stored old new op rs1 rs2 imm address value width r done to wide is holds answers size pc =
-    λ f t w shown.
+    λ all w shown.
+    let f = all.0 in
+    let t = all.1 in
     let came : StoresOrNot true (store_at w t address width value) w (new f t) =
     subst (λ b. StoresOrNot b (store_at w t address width value) w (new f t)) holds
     (answers f t w shown) in
@@ -216,7 +221,7 @@ stored old new op rs1 rs2 imm address value width r done to wide is holds answer
     let behind : ℕ = (pc + size) % 2 ^ 32 in
     subst (λ (o : Result World Reason). Follows (new f t) w (with_pc r pc) (with_pc r behind) Step
     (o >>= λ u. Ok (with_pc r behind, u))) (sym there)
-    (record { went_is = refl; registers = refl; world = came.2 })
+    (record { went_is = refl; registers = refl; memory = came.2 })
 
 pub not-stored : (done : Bool) (answer : Result World Reason) (w : World)
     (shows : World → Type 0) → done ≡ false → StoresOrNot done answer w shows → shows w

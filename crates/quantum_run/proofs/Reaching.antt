@@ -16,7 +16,7 @@ use Rattle.dos_world.specs.declared.Size.{Size}
 use Rattle.dos_world.specs.declared.Size.TheVariants.{Half}
 use Rattle.page_store.specs.Store.{joined, number_at}
 use Rattle.flat_machine.specs.Step.{◌>>=◌, reached, place_or_reason, half_at, load_at, store_at}
-use Rattle.rv_exec.specs.Follows.{word_at}
+use Rattle.rv_exec.specs.Runs.{word_at}
 use Rattle.quantum_run.specs.Finding.{frame_by, frame_for, frame_for_size, flat_place}
 use Rattle.quantum_run.proofs.Places.{sized}
 use Rattle.quantum_run.specs.declared.slot.Slot.{Slot}

@@ -1,31 +1,20 @@
 -- An instruction that stops leaves the registers as they were.
-use Rattle.std.proofs.Common.{ℕ, ◌≡◌, sym, ap, ◌∙◌, Option, Some, Result, Ok, Err}
-use Rattle.dos_world.specs.World.{World, Registers, with_pc}
+use Rattle.std.proofs.Common.{ℕ, ◌≡◌, ap, Result, Ok, Err}
+use Rattle.dos_world.specs.World.{Registers, with_pc}
 use Rattle.dos_world.specs.declared.Reason.{Reason}
-use Rattle.rv_exec.specs.Runs.{Runs, Steps}
+use Rattle.rv_exec.specs.Follows.{Follows}
 use Rattle.rv_exec.specs.declared.Went.TheVariants.{Step, Stop}
 
 Stop≢Step : (reason : Reason) → Stop reason ≡ Step → ⊥
 Stop≢Step reason q = cc
 
-Some-first : (a b : Registers) (m n : ℕ)
-    → ◌≡◌ {A = Option (Registers × ℕ)} (Some (a, m)) (Some (b, n)) → a ≡ b
-Some-first a b m n same =
-    let pair : ◌≡◌ {A = Registers × ℕ} (a, m) (b, n) = cc in ap (λ p. p.0) pair
-
-pub stop-there : (before after : World → Type 0) (w : World) (t : ℕ) (r new : Registers)
-    (pc budget : ℕ) (reason : Reason) (o : Result World Reason)
-    → Runs before w t (with_pc r pc) budget → Steps after w t new budget (Stop reason) o
-    → Steps after w t (with_pc new pc) budget (Stop reason) o
-stop-there before after w t r new pc budget reason (Ok next) runs stepped =
-    absurd (Stop≢Step reason stepped.0)
-stop-there before after w t r new pc budget reason (Err cause) runs stepped =
-    let same : with_pc r pc ≡ new = Some-first (with_pc r pc) new budget budget
-    (sym runs.thread ∙ stepped.1.thread) in
-    let put : new ≡ with_pc new pc = sym same ∙ ap (λ (x : Registers). with_pc x pc) same in (
-      stepped.0,
-      record {
-        shown = stepped.1.shown;
-        thread = stepped.1.thread ∙ ap (λ (x : Registers). Some (x, budget)) put;
-      },
-    )
+pub stop-there : {M : Type 0} (shows : M → Type 0) (m : M) (r new : Registers) (pc : ℕ)
+    (reason : Reason) (o : Result (Registers × M) Reason)
+    → Follows shows m (with_pc r pc) new (Stop reason) o
+    → Follows shows m (with_pc r pc) (with_pc new pc) (Stop reason) o
+stop-there shows m r new pc reason (Ok next) follows = absurd (Stop≢Step reason follows.went_is)
+stop-there shows m r new pc reason (Err cause) follows = record {
+  went_is = follows.went_is;
+  registers = ap (λ (x : Registers). with_pc x pc) follows.registers;
+  memory = follows.memory;
+}

@@ -11,7 +11,8 @@ use Rattle.rv_form.specs.declared.form.Form.{Form}
 use Rattle.rv_form.specs.Forms.{IsFormOf}
 use Rattle.flat_machine.specs.Effect.{Effect}
 use Rattle.flat_machine.specs.Over.{effect_in, world_answers}
-use Rattle.rv_exec.specs.Follows.{Follows, word_at}
+use Rattle.rv_exec.specs.Follows.{Follows}
+use Rattle.rv_exec.specs.Runs.{word_at}
 use Rattle.rv_exec.specs.Instruction.{effect_of_form}
 use Rattle.rv_exec.specs.Arrivals.{arrived_by}
 use Rattle.rv_exec.specs.declared.Went.TheVariants.{Step}
@@ -396,11 +397,12 @@ line-done {F} now left fixed after pages left_pages shown left_shown first_shown
         (ShowsKnown left after left_pages left_shown left_compared) line.size pc r r' k
         (effect_of_form line.form)
         → Reaches then w t (arrived_by line.size r' pc k) budget (more - 1)
-    by_next On q d = go (arrived_by line.size r' pc On) (λ u s. d (f, bytes_of_pages known) t u s)
+    by_next On q d =
+        go (arrived_by line.size r' pc On) (λ u s. d ((f, bytes_of_pages known), t) u s)
     by_next Short q d =
-        go (arrived_by line.size r' pc Short) (λ u s. d (f, bytes_of_pages known) t u s)
+        go (arrived_by line.size r' pc Short) (λ u s. d ((f, bytes_of_pages known), t) u s)
     by_next (To target) q d =
-        go (arrived_by line.size r' pc (To target)) (λ u s. d (f, bytes_of_pages known) t u s)
+        go (arrived_by line.size r' pc (To target)) (λ u s. d ((f, bytes_of_pages known), t) u s)
     by_next Not q d = absurd (q refl)
 
 -- and by one that isn't

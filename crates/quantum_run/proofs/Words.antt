@@ -18,7 +18,7 @@ use Rattle.code_pages.specs.declared.line.Line.{Line}
 use Rattle.code_pages.specs.Lines.{AreKnownPages, CodePage, IsCodeLine, IsLineAt, IsStartIn, Known}
 use Rattle.code_pages.specs.Lines.{bytes_of_pages}
 use Rattle.flat_machine.specs.Step.{half_at}
-use Rattle.rv_exec.specs.Follows.{word_at}
+use Rattle.rv_exec.specs.Runs.{word_at}
 use Rattle.quantum_run.specs.declared.slot.Slot.{Slot}
 use Rattle.quantum_run.specs.Finding.{AreFramesOf, page_start}
 use Rattle.quantum_run.specs.Knowing.{AreSameAround, IsLineFor}

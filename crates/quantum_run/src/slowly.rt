@@ -3,7 +3,9 @@ ghost use Rattle.std.specs.Prelude.{◌≡◌, ◌<◌, ◌⊎◌, ◌%◌, ℕ,
 ghost use Rattle.dos_world.specs.World.{World, Registers as registers_of_thread, with_pc};
 ghost use Rattle.dos_world.specs.declared.Reason.{Reason as reason};
 ghost use Rattle.rv_exec.specs.Arrivals.{arrived, went};
+ghost use Rattle.rv_exec.specs.Follows.{Follows};
 ghost use Rattle.rv_exec.specs.Runs.{Runs, Steps};
+ghost use Rattle.flat_machine.specs.Over.{one_in};
 ghost use Rattle.flat_machine.specs.Step.{step};
 ghost use Rattle.code_pages.specs.Lines.{IsLiveAt, bytes_of_pages};
 ghost use Rattle.quantum_run.specs.Finding.{page_start};
@@ -35,10 +37,10 @@ fn behind(pc: u32, next: Next) -> Option<u32>
 
 /// One instruction at pc, by a fetch: where it leads, or None, for this reason.
 fn by_fetch<M: Memory>(regs: &mut Regs, memory: &mut M, pc: u32, why: &mut Reason) -> Option<u32>
-    ensures { (f : M.Fixed) (t : ℕ) (w : World) (budget : ℕ)
-        → Runs (M.shows memory.old f t) w t (with_pc regs.old pc) budget
-        → Steps (M.shows memory.new f t) w t (with_pc regs.new (unwrap_or result pc)) budget
-        (went_on result why.new) (step w t) }
+    ensures { (f : M.Fixed) (m : M.State) → M.shows memory.old f m
+        → Follows (M.shows memory.new f) m (with_pc regs.old pc)
+        (with_pc regs.new (unwrap_or result pc)) (went_on result why.new)
+        (one_in (M.answers f) (with_pc regs.old pc) m) }
 {
     regs.set_pc(pc);
     match one(regs, memory) {

@@ -552,15 +552,17 @@ impl<'a, P: Pages> Running<'a, P> {
 impl<'a, P: Pages> Memory for Running<'a, P> {
     ghost use Rattle.std.specs.Prelude.{List};
     ghost use Rattle.std.specs.Prelude.{Option, ℕ};
-    ghost use Rattle.quantum_run.specs.Showing.{blind_known};
+    ghost use Rattle.flat_machine.specs.Over.{world_answers};
 
-    ghost Fixed = { (Still × P.Fixed) × List (Option (List ℕ)) };
+    // beside what stands still, whose memory it is in the flat world
+    ghost Fixed = { ((Still × P.Fixed) × List (Option (List ℕ))) × ℕ };
 
-    ghost shows = { λ m. ShowsKnown (still m.tid (P.owners m.pages) m.space.now.entries)
-        (P.fixed m.pages) (P.pages m.pages) m.shown m.compared };
+    ghost State = { World };
 
-    ghost blind = { λ m. blind_known (still m.tid (P.owners m.pages) m.space.now.entries)
-        (P.fixed m.pages) (P.pages m.pages) m.shown m.compared };
+    ghost answers = { λ f. world_answers f.1 };
+
+    ghost shows = { λ m f. ShowsKnown (still m.tid (P.owners m.pages) m.space.now.entries)
+        (P.fixed m.pages) (P.pages m.pages) m.shown m.compared f.0 f.1 };
 
     fn fetch_half(&mut self, address: u32) -> Result<u16, Reason> {
         if !Size::Half.is_aligned(address) {

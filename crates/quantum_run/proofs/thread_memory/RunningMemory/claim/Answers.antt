@@ -5,7 +5,9 @@ use Rattle.quantum_run.proofs.Reaching.{read-found, read-refused, shows-known}
 use Rattle.quantum_run.proofs.thread_memory.RunningMemory.claim.Goals as goal
 
 pub returns-in-Some : goal.returns-in-Some
-returns-in-Some g c = λ f t w s.
+returns-in-Some g c = λ all w s.
+    let f = all.0 in
+    let t = all.1 in
     let e = c.in-Some.ensures in
     let m = c.args.self.now in (
       shows-known _ _ _ _ _ _ _ _ _ _ f t w e.still e.fixed e.pages
@@ -18,7 +20,9 @@ returns-in-Some g c = λ f t w s.
     )
 
 pub returns-in-None : goal.returns-in-None
-returns-in-None g c = λ f t w s.
+returns-in-None g c = λ all w s.
+    let f = all.0 in
+    let t = all.1 in
     let e = c.in-None.ensures in
     let m = c.args.self.now in (
       shows-known _ _ _ _ _ _ _ _ _ _ f t w e.still e.fixed e.pages

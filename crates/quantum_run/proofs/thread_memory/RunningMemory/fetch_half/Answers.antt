@@ -8,7 +8,9 @@ use Rattle.quantum_run.proofs.Reaching.{read-found, read-refused, shows-known}
 use Rattle.quantum_run.proofs.thread_memory.RunningMemory.fetch_half.Goals as goal
 
 pub returns-in-Some : goal.returns-in-Some
-returns-in-Some g c = λ f t w s.
+returns-in-Some g c = λ all w s.
+    let f = all.0 in
+    let t = all.1 in
     let e = c.in-Some.ensures in
     let m = c.args.self.now in
     let owners = g.P.Pages.owners m.pages in
@@ -24,7 +26,9 @@ returns-in-Some g c = λ f t w s.
     )
 
 pub returns-in-None : goal.returns-in-None
-returns-in-None g c = λ f t w s.
+returns-in-None g c = λ all w s.
+    let f = all.0 in
+    let t = all.1 in
     let e = c.in-None.ensures in
     let m = c.args.self.now in
     let owners = g.P.Pages.owners m.pages in
