@@ -5,6 +5,7 @@ pub mod Over
 pub mod Alone
 pub mod Rest
 pub mod Round
+pub mod Buffered
 pub mod Mixed
 pub mod Opening
 pub mod Machine

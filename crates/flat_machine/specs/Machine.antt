@@ -9,6 +9,7 @@ use Rattle.dos_world.specs.declared.Ending.TheVariants.{Done, Limit, Stalled}
 use Rattle.dos_world.specs.declared.Question.{Question}
 use Rattle.dos_world.specs.declared.Question.TheVariants.{End as end_question}
 use Rattle.flat_machine.specs.Round.{went, finished, stalled, parallel, round_by, is_none_of}
+use Rattle.flat_machine.specs.Buffered.{buffered}
 use Rattle.elf_image.specs.Image.{Image}
 use Rattle.flat_machine.specs.Opening.{opening}
 
@@ -121,3 +122,7 @@ machine_from w config answers = machine_by parallel w config answers
 -- the run of these images over these answers of the shim
 abbrev pub machine : List Image → Config → List Answer → Ran
 machine images config answers = machine_from (opening images config) config answers
+
+-- the same in the buffered scheme
+abbrev pub machine_b : List Image → Config → List Answer → Ran
+machine_b images config answers = machine_by buffered (opening images config) config answers
