@@ -12,3 +12,4 @@ mod Sleepers
 mod SentSignals
 mod Numbers
 mod RefusedCalls
+mod Buffering
