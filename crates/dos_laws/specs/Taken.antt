@@ -1,9 +1,17 @@
--- A frame that somebody has. This project's own rule.
-use Rattle.std.specs.Prelude.{ℕ, ◌≢◌, ◌<◌, length}
-use Rattle.dos_world.specs.World.{World, owner_of}
+-- A frame that somebody has, and a word that was written in one. This project's own rules.
+use Rattle.std.specs.Prelude.{ℕ, ◌≡◌, ◌≢◌, ◌<◌, List, length, false, slice_index_or}
+use Rattle.dos_world.specs.World.{World, is_free, owner_of}
+use Rattle.dos_world.specs.declared.Owner.{Owner}
 use Rattle.dos_world.specs.declared.Owner.TheVariants.{Free}
+use Rattle.written_words.specs.declared.Written.{Written}
+use Rattle.written_words.specs.Index.{IsAlignedWord}
 
 -- a frame that is there, and isn't Free
 pub record IsTaken (w : World) (frame : ℕ) : Type 0 where
   pub within : frame < length w.owners
   pub owner : owner_of w frame ≢ Free
+
+-- where frames have these owners, an aligned word of one that isn't Free
+pub record IsWordOf (owners : List Owner) (x : Written) : Type 0 where
+  pub word : IsAlignedWord x
+  pub owned : is_free (slice_index_or owners x.frame Free) ≡ false

@@ -31,3 +31,4 @@ pub mod Collecting
 pub mod PipeAdds
 pub mod Forks
 pub mod Staying
+pub mod PutWords

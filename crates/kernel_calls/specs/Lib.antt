@@ -8,3 +8,4 @@ pub mod Memory
 pub mod Ends
 pub mod Waits
 pub mod Children
+pub mod Committing

@@ -7,6 +7,7 @@
 mod answering;
 mod children;
 mod clock;
+mod committing;
 mod descriptors;
 mod ending;
 mod memory;
@@ -21,6 +22,7 @@ mod threads;
 mod waiting;
 mod writing;
 
+pub use committing::commit;
 pub use ending::end_process;
 pub use services::serve;
 pub use state::{RunStop, Served, State, count_round, new_state, run_stop};

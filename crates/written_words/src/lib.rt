@@ -7,6 +7,7 @@ mod index;
 mod merge;
 mod words;
 
+pub use merge::bytes_over;
 pub use words::WrittenWords;
 
 /// A word of memory of which bytes were written: its frame; its offset there, a multiple of 4; a

@@ -61,7 +61,7 @@ fn chosen(mask: u8, new: u8, old: u8) -> u8
 
 /// The bytes of a word of memory with those of a written word over them.
 #[inline]
-pub(crate) fn bytes_over(old: [u8; 4], word: Written) -> [u8; 4]
+pub fn bytes_over(old: [u8; 4], word: Written) -> [u8; 4]
     ensures { result ≡ written_by word.mask old 0 (bytes_of 4 word.value) }
 {
     // most words are written whole
