@@ -25,11 +25,12 @@ use Rattle.flat_machine.specs.Rest.{granted_by, page_granted, settled, Turn, on,
 use Rattle.flat_machine.specs.Rest.{service_done, after_step, turn, turns, rest_of, rest_if_live}
 use Rattle.flat_machine.specs.Rest.{serial_of}
 use Rattle.flat_machine.specs.Round.{RoundEnd, finished, stalled, all_alone, parallel, with_budget}
-use Rattle.flat_machine.specs.Round.{with_budgets, budgets, counted, phases, is_none_of, begun}
-use Rattle.flat_machine.specs.Round.{round_of}
+use Rattle.flat_machine.specs.Round.{with_budgets, budgets, counted, phases_by, is_none_of}
+use Rattle.flat_machine.specs.Round.{begun_by, round_by, round_of}
 use Rattle.flat_machine.specs.Round.{went as went_on}
 use Rattle.round_core.specs.Protocol.{Protocol, Allows}
 use Rattle.round_core.specs.Invariants.{Holds, Keeps, IsInvariant, LeavesServed, LeavesEnd}
+use Rattle.round_core.specs.Invariants.{PhaseKeeps}
 use Rattle.round_core.proofs.Allowed.{then_allows}
 
 module _ (protocol : Protocol) (I : Holds) (k : Keeps protocol I) where
@@ -52,7 +53,7 @@ module _ (protocol : Protocol) (I : Holds) (k : Keeps protocol I) where
   all_alone_keep ts w [] h = h
   all_alone_keep ts w (u ∷ us) h = all_alone_keep ts (alone w u) us (alone_keeps ts w u h)
 
-  pub parallel_keeps : (ts : List ℕ) (w : World) → I ts w → I ts (parallel w)
+  pub parallel_keeps : PhaseKeeps I parallel
   parallel_keeps ts w h = all_alone_keep ts w (ready_threads w) h
 
   pub with_budgets_keep : (ts : List ℕ) (w : World) (us : List ℕ) → I ts w
@@ -201,27 +202,28 @@ module _ (protocol : Protocol) (I : Holds) (k : Keeps protocol I) where
 
   -- ---- the round
 
-  pub phases_keep : (w : World) → I [] w
-      → Allows protocol (LeavesEnd (I [])) (phases w (ready_threads w))
-  phases_keep w h =
+  phases_keep : (phase : World → World) → PhaseKeeps I phase → (w : World) → I [] w
+      → Allows protocol (LeavesEnd (I [])) (phases_by phase w (ready_threads w))
+  phases_keep phase kept w h =
       let starters : List ℕ = ready_threads w in
       let opening : World = with_budgets w starters in
-      let halfway : World = parallel opening in
+      let halfway : World = phase opening in
       then_allows protocol (I []) (LeavesEnd (I [])) (serial_of halfway starters)
       (λ last. done (went_on (counted last) (budgets opening starters - budgets halfway starters)))
       (serial_keeps halfway starters
-      (parallel_keeps starters opening
+      (kept starters opening
       (with_budgets_keep starters w starters (k.begins w h))))
-      (λ last kept. (last, refl, kept))
+      (λ last left. (last, refl, left))
 
-  pub begun_keeps : (w : World) → I [] w → Allows protocol (LeavesEnd (I [])) (begun w)
-  begun_keeps w h =
+  begun_keeps : (phase : World → World) → PhaseKeeps I phase → (w : World) → I [] w
+      → Allows protocol (LeavesEnd (I [])) (begun_by phase w)
+  begun_keeps phase kept w h =
       cond_both (is_none_of (live_threads w)) (done (finished w))
-      (cond (is_none_of (ready_threads w)) (done (stalled w)) (phases w (ready_threads w)))
+      (cond (is_none_of (ready_threads w)) (done (stalled w)) (phases_by phase w (ready_threads w)))
       (Allows protocol (LeavesEnd (I []))) (λ none. h)
       (λ some. cond_both (is_none_of (ready_threads w)) (done (stalled w))
-      (phases w (ready_threads w)) (Allows protocol (LeavesEnd (I []))) (λ none. h)
-      (λ ready. phases_keep w h))
+      (phases_by phase w (ready_threads w)) (Allows protocol (LeavesEnd (I []))) (λ none. h)
+      (λ ready. phases_keep phase kept w h))
 
   -- the signals of a round, and who ripens
   pub opened_keeps : (w : World) (posts : List Post) → All protocol.posts posts → I [] w
@@ -229,21 +231,26 @@ module _ (protocol : Protocol) (I : Holds) (k : Keeps protocol I) where
   opened_keeps w posts all h = k.ripen_kept (signalled w posts) (signalled_keeps w posts all h)
 
   -- A round, where it may ask for its signals.
-  pub round_keeps : (w : World) → protocol.may (Signals (w.rounds + 1)) w.output w.error → I [] w
-      → Allows protocol (LeavesEnd (I [])) (round_of w)
-  round_keeps w may h =
+  pub round_by_keeps : (phase : World → World) → PhaseKeeps I phase → (w : World)
+      → protocol.may (Signals (w.rounds + 1)) w.output w.error → I [] w
+      → Allows protocol (LeavesEnd (I [])) (round_by phase w)
+  round_by_keeps phase kept w may h =
       cond_both (is_none_of (live_threads w)) (done (finished w)) asked
       (Allows protocol (LeavesEnd (I []))) (λ none. h)
       (λ some. (
         may,
-        λ answer is. begun_keeps (ripen (signalled w (posts_of answer)))
+        λ answer is. begun_keeps phase kept (ripen (signalled w (posts_of answer)))
             (opened_keeps w (posts_of answer) (protocol.brings answer is) h),
       ))
     where
       asked : Play RoundEnd
       asked =
           ask (Signals (w.rounds + 1)) w.output w.error
-          (λ answer. begun (ripen (signalled w (posts_of answer))))
+          (λ answer. begun_by phase (ripen (signalled w (posts_of answer))))
+
+  pub round_keeps : (w : World) → protocol.may (Signals (w.rounds + 1)) w.output w.error → I [] w
+      → Allows protocol (LeavesEnd (I [])) (round_of w)
+  round_keeps = round_by_keeps parallel parallel_keeps
 
   pub kept_throughout : IsInvariant protocol I
   kept_throughout = record {
@@ -254,5 +261,5 @@ module _ (protocol : Protocol) (I : Holds) (k : Keeps protocol I) where
     serial_kept = λ ts w h. serial_keeps w ts h;
     signals_kept = signalled_keeps;
     phases_kept = begun_keeps;
-    round_kept = round_keeps;
+    round_kept = round_by_keeps;
   }

@@ -21,8 +21,8 @@ use Rattle.dos_world.specs.declared.Reason.TheVariants.{Fault}
 use Rattle.flat_machine.specs.Step.{step}
 use Rattle.flat_machine.specs.Alone.{alone, emptied}
 use Rattle.flat_machine.specs.Rest.{process_of, rest_of, serial_of}
-use Rattle.flat_machine.specs.Round.{RoundEnd, finished, stalled, parallel, counted, begun}
-use Rattle.flat_machine.specs.Round.{round_of}
+use Rattle.flat_machine.specs.Round.{RoundEnd, finished, stalled, parallel, counted, begun_by}
+use Rattle.flat_machine.specs.Round.{round_by}
 use Rattle.flat_machine.specs.Round.{went as went_on}
 use Rattle.round_core.specs.Protocol.{Protocol, Allows}
 
@@ -79,10 +79,14 @@ LeavesEnd J (went_on w work) = (last : World) × (w ≡ counted last) × J last
 LeavesEnd J (finished w) = J w
 LeavesEnd J (stalled w) = J w
 
+-- this parallel phase keeps it
+abbrev pub PhaseKeeps : Holds → (World → World) → Type 0
+PhaseKeeps I phase = (ts : List ℕ) (w : World) → I ts w → I ts (phase w)
+
 pub record IsInvariant (protocol : Protocol) (I : Holds) : Type 0 where
   -- a thread's quantum by itself, and the parallel phase
   pub alone_kept : (ts : List ℕ) (w : World) (t : ℕ) → I ts w → I ts (alone w t)
-  pub parallel_kept : (ts : List ℕ) (w : World) → I ts w → I ts (parallel w)
+  pub parallel_kept : PhaseKeeps I parallel
   -- what a7 names, a thread's serial part, and the serial phase of these threads
   pub service_kept : (ts : List ℕ) (w : World) (t : ℕ)
       → I (t ∷ ts) w → Allows protocol (LeavesServed I t ts) (service w t)
@@ -92,11 +96,13 @@ pub record IsInvariant (protocol : Protocol) (I : Holds) : Type 0 where
   -- the signal point
   pub signals_kept : (w : World) (posts : List Post)
       → All protocol.posts posts → I [] w → I [] (signalled w posts)
-  -- what follows the signal point
-  pub phases_kept : (w : World) → I [] w → Allows protocol (LeavesEnd (I [])) (begun w)
-  -- a round, where it may ask for its signals
-  pub round_kept : (w : World) → protocol.may (Signals (w.rounds + 1)) w.output w.error → I [] w
-      → Allows protocol (LeavesEnd (I [])) (round_of w)
+  -- what follows the signal point, with any parallel phase that keeps it
+  pub phases_kept : (phase : World → World) → PhaseKeeps I phase → (w : World) → I [] w
+      → Allows protocol (LeavesEnd (I [])) (begun_by phase w)
+  -- a round with such a phase, where it may ask for its signals
+  pub round_kept : (phase : World → World) → PhaseKeeps I phase → (w : World)
+      → protocol.may (Signals (w.rounds + 1)) w.output w.error → I [] w
+      → Allows protocol (LeavesEnd (I [])) (round_by phase w)
 
 -- ---- a run
 

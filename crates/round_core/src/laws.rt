@@ -75,7 +75,7 @@ pub trait Invariant {
 
 /// What every change of a round keeps, the whole round keeps: where an instruction, a grant, each
 /// service, the end of a process and the signal point keep an invariant, so do the parallel phase,
-/// the serial phase and the round.
+/// the serial phase and the round, also a round with another parallel phase that keeps it.
 pub fn invariants_are_kept<I: Invariant>()
     requires { Keeps I.protocol I.holds }
     ensures { IsInvariant I.protocol I.holds }
