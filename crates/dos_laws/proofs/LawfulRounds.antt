@@ -10,18 +10,22 @@ use Rattle.dos_world.specs.Services.{service}
 use Rattle.dos_world.specs.Signals.{signalled, ripen}
 use Rattle.dos_world.specs.declared.Post.{Post}
 use Rattle.flat_machine.specs.Step.{step}
-use Rattle.round_core.specs.Invariants.{IsInvariant, LeavesServed, LeavesEnd, IsOf}
+use Rattle.flat_machine.specs.Buffered.{Part, buffered, with_part}
+use Rattle.round_core.specs.Invariants.{IsInvariant, LeavesServed, LeavesEnd, IsOf, PhaseKeeps}
 use Rattle.flat_machine.specs.Rest.{serial_of}
-use Rattle.flat_machine.specs.Round.{RoundEnd, finished, stalled, parallel, round_of}
+use Rattle.flat_machine.specs.Round.{RoundEnd, finished, stalled, parallel, round_by, round_of}
 use Rattle.flat_machine.specs.Round.{went as went_on}
 use Rattle.round_core.proofs.Allowed.{over_allows}
 use Rattle.round_core.proofs.Keeps.{kept_throughout}
+use Rattle.round_core.proofs.Buffers.{buffered-form}
 use Rattle.round_core.proofs.KeepsBoth.{Both, both_kept}
 use Rattle.round_core.proofs.SameRun.{same_run_kept}
 use Rattle.dos_laws.specs.Plays.{world_served, world_ended}
 use Rattle.dos_laws.specs.Standing.{IsAwake, AreAwake, AreApart, LawfulWith, IsPost, IsFit}
 use Rattle.dos_laws.specs.Standing.{fit_protocol}
+use Rattle.dos_laws.specs.Taken.{IsPartIn}
 use Rattle.dos_laws.proofs.Outside.{lawful-counted}
+use Rattle.dos_laws.proofs.StandsBuffered.{stands-buffered, stands-part}
 use Rattle.dos_laws.proofs.StandsKeeps.{stands_kept}
 
 -- a lawful world, in which nobody has a part left
@@ -37,6 +41,11 @@ lawful-step w next t is l = (stands_kept.steps_kept [] w next t is (at_rest w l)
 
 pub lawful-parallel : (w : World) → Lawful w → Lawful (parallel w)
 lawful-parallel w l = (kept.parallel_kept [] w (at_rest w l)).lawful
+
+-- a part that is put in
+pub lawful-part : (w : World) (t : ℕ) (p : Part) → IsPartIn w.owners p → Lawful w
+    → Lawful (with_part w t p)
+lawful-part w t p is l = (stands-part [] w t p is (at_rest w l)).lawful
 
 pub lawful-signalled : (w : World) (posts : List Post) → All IsPost posts → Lawful w
     → Lawful (signalled w posts)
@@ -83,16 +92,33 @@ module _ (w : World) where
   round_left few (finished last) h = h.0.lawful
   round_left few (stalled last) h = h.0.lawful
 
-  pub lawful-round : (end : RoundEnd) (answers rest : List Answer) → w.rounds < 1000000
-      → Lawful w → All IsFit answers → over answers (round_of w) ≡ gives end rest
-      → Lawful (world_ended end)
-  lawful-round end answers rest few l fit is =
+  -- with any parallel phase that keeps the world lawful, its quantum and its count of rounds
+  lawful-round_by : (phase : World → World) → PhaseKeeps LawfulWith phase
+      → PhaseKeeps IsHere phase → (end : RoundEnd) (answers rest : List Answer)
+      → w.rounds < 1000000 → Lawful w → All IsFit answers
+      → over answers (round_by phase w) ≡ gives end rest → Lawful (world_ended end)
+  lawful-round_by phase stands stays end answers rest few l fit is =
       let both =
       both_kept LawfulWith IsHere fit_protocol stands_kept
       (same_run_kept w.quantum w.rounds fit_protocol (λ question output error. tt)) in
       round_left few end
       (over_allows fit_protocol (LeavesEnd (Both LawfulWith IsHere [])) answers
-      (round_of w) end rest
-      ((kept_throughout fit_protocol (Both LawfulWith IsHere) both).round_kept w tt
-      (at_rest w l, (refl, refl)))
+      (round_by phase w) end rest
+      ((kept_throughout fit_protocol (Both LawfulWith IsHere) both).round_kept phase
+      (λ ts u h. (stands ts u h.0, stays ts u h.1)) w tt (at_rest w l, (refl, refl)))
       fit is)
+
+  here : IsInvariant fit_protocol IsHere
+  here = kept_throughout fit_protocol IsHere
+      (same_run_kept w.quantum w.rounds fit_protocol (λ question output error. tt))
+
+  pub lawful-round : (end : RoundEnd) (answers rest : List Answer) → w.rounds < 1000000
+      → Lawful w → All IsFit answers → over answers (round_of w) ≡ gives end rest
+      → Lawful (world_ended end)
+  lawful-round = lawful-round_by parallel kept.parallel_kept here.parallel_kept
+
+  pub lawful-buffered_round : (end : RoundEnd) (answers rest : List Answer) → w.rounds < 1000000
+      → Lawful w → All IsFit answers → over answers (round_by buffered w) ≡ gives end rest
+      → Lawful (world_ended end)
+  lawful-buffered_round = lawful-round_by buffered stands-buffered
+      (λ ts u h. subst (λ (x : World). IsHere ts x) (sym (buffered-form u)) h)

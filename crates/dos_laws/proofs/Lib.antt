@@ -37,5 +37,7 @@ pub mod StandsChildren
 pub mod Forks
 pub mod StandsSteps
 pub mod StandsKeeps
+pub mod PutWords
+pub mod StandsBuffered
 pub mod LawfulRounds
 mod NotKept

@@ -14,14 +14,15 @@ use Rattle.dos_world.specs.declared.Entry.{Entry}
 use Rattle.dos_world.specs.declared.Post.{Post}
 use Rattle.dos_world.specs.declared.ThreadState.TheVariants.{Ready}
 use Rattle.flat_machine.specs.Step.{step}
-use Rattle.round_core.specs.Invariants.{Keeps}
+use Rattle.flat_machine.specs.Buffered.{Part, buffered, part_b, with_part}
+use Rattle.round_core.specs.Invariants.{Keeps, PhaseKeeps}
 use Rattle.round_core.specs.Laws.{IsNoPage}
 use Rattle.flat_machine.specs.Rest.{settled, serial_of}
-use Rattle.flat_machine.specs.Round.{RoundEnd, parallel, round_of}
+use Rattle.flat_machine.specs.Round.{RoundEnd, parallel, round_by, round_of}
 use Rattle.dos_laws.specs.Plays.{world_served, world_ended}
 use Rattle.dos_laws.specs.Standing.{IsAwake, AreAwake, AreApart, LawfulWith, IsPost, IsFit}
 use Rattle.dos_laws.specs.Standing.{fit_protocol}
-use Rattle.dos_laws.specs.Taken.{IsTaken}
+use Rattle.dos_laws.specs.Taken.{IsPartIn, IsTaken}
 
 -- ---- what holds in a lawful world
 
@@ -43,6 +44,10 @@ NewPagesAreZero = (w : World) (t p rights page : ℕ) → Lawful w → 0 < free_
 -- After three grants no instruction stops at a page.
 abbrev pub NoPageIsLeft : Type 0
 NoPageIsLeft = (w : World) (t : ℕ) → Lawful w → IsNoPage (settled 3 w t).1
+
+-- A part in the buffered scheme has registers in range, and words of frames that aren't Free.
+abbrev pub PartsAreInRange : Type 0
+PartsAreInRange = (w : World) (t : ℕ) → Lawful w → IsPartIn w.owners (part_b w t)
 
 -- ---- what leaves every lawful world lawful, whatever pipes, sleepers, signals and children it has
 
@@ -100,3 +105,20 @@ abbrev pub RoundsKeep : Type 0
 RoundsKeep = (w : World) (end : RoundEnd) (answers rest : List Answer) → w.rounds < 1000000
     → Lawful w → All IsFit answers
     → over answers (round_of w) ≡ gives end rest → Lawful (world_ended end)
+
+-- ---- the same in the buffered scheme
+
+-- a part in range that is put in
+abbrev pub PartsKeep : Type 0
+PartsKeep = (w : World) (t : ℕ) (p : Part) → IsPartIn w.owners p → Lawful w
+    → Lawful (with_part w t p)
+
+-- the parallel phase
+abbrev pub BufferedPhasesKeep : Type 0
+BufferedPhasesKeep = PhaseKeeps LawfulWith buffered
+
+-- a round, where one is left to be counted
+abbrev pub BufferedRoundsKeep : Type 0
+BufferedRoundsKeep = (w : World) (end : RoundEnd) (answers rest : List Answer) → w.rounds < 1000000
+    → Lawful w → All IsFit answers
+    → over answers (round_by buffered w) ≡ gives end rest → Lawful (world_ended end)

@@ -1,4 +1,6 @@
 // Laws of the definitions, as contracts of functions that do nothing.
+ghost use Rattle.dos_laws.specs.Laws.{BufferedPhasesKeep, BufferedRoundsKeep, PartsAreInRange};
+ghost use Rattle.dos_laws.specs.Laws.{PartsKeep};
 ghost use Rattle.dos_laws.specs.Laws.{EntriesAreTaken, ForksKeep, LawfulnessIsKept};
 ghost use Rattle.dos_laws.specs.Laws.{NewPagesAreZero};
 ghost use Rattle.dos_laws.specs.Laws.{NoPageIsLeft};
@@ -26,6 +28,12 @@ pub fn new_pages_are_zero()
 /// In a lawful world no instruction stops at a page after three grants.
 pub fn no_page_is_left()
     ensures { NoPageIsLeft }
+{}
+
+/// In a lawful world a thread's part in the buffered scheme leaves registers in range, and words of
+/// frames that aren't Free.
+pub fn parts_are_in_range()
+    ensures { PartsAreInRange }
 {}
 
 // ---- what leaves every lawful world lawful
@@ -88,4 +96,24 @@ pub fn ripening_keeps()
 /// rounds were run.
 pub fn rounds_keep()
     ensures { RoundsKeep }
+{}
+
+// ---- the same in the buffered scheme
+
+/// A part with registers in range and words of frames that aren't Free, put in, leaves every lawful
+/// world lawful.
+pub fn parts_keep()
+    ensures { PartsKeep }
+{}
+
+/// The parallel phase of the buffered scheme leaves every lawful world lawful, and those threads
+/// ready that were.
+pub fn buffered_phases_keep()
+    ensures { BufferedPhasesKeep }
+{}
+
+/// A round in the buffered scheme leaves every lawful world lawful, over all answers that fit,
+/// where fewer than 1000000 rounds were run.
+pub fn buffered_rounds_keep()
+    ensures { BufferedRoundsKeep }
 {}
