@@ -1,28 +1,31 @@
--- A word put in memory, in the page of its frame and in the one list of bytes; and what a part that
--- is put into a state leaves counted.
+-- A word put in memory, in the page of its frame and in the one list of bytes; and a part put into
+-- a state.
 use Rattle.std.proofs.Common.{ℕ, zero, suc, ◌+◌, ◌-◌, ◌*◌, ◌/◌, ◌%◌, ◌<◌, ◌≤◌, ◌≡◌, refl, sym, ap}
-use Rattle.std.proofs.Common.{◌∙◌, cond, Bool, true, false, eqb, List, [], ◌∷◌, ◌++◌, length}
+use Rattle.std.proofs.Common.{◌∙◌, subst, cond, Bool, true, false, eqb, List, [], ◌∷◌, ◌++◌, length}
 use Rattle.std.proofs.Common.{get_or, set, take, drop, length-set, Option, Some, arith}
 use Rattle.std.specs.Prelude.{slice_get}
 use Rattle.std.proofs.lemmas.List.{set-set, set_comm, set-append_left, set-append_right}
 use Rattle.std.proofs.lemmas.List.{length-take, length-drop, take-append-drop, drop-drop}
 use Rattle.std.proofs.lemmas.List.{drop_more}
 use Rattle.dos_world.specs.Bytes.{bytes_of, written}
-use Rattle.dos_world.specs.World.{Registers}
+use Rattle.dos_world.specs.World.{World, Registers}
+use Rattle.dos_world.specs.Lawful.{Lawful}
 use Rattle.dos_world.specs.declared.Owner.{Owner}
 use Rattle.written_words.specs.declared.Written.{Written}
-use Rattle.written_words.specs.Words.{word_put, written_by}
-use Rattle.dos_laws.specs.Taken.{IsWordOf}
+use Rattle.written_words.specs.Words.{word_put, words_put, written_by}
+use Rattle.flat_machine.specs.Buffered.{part, with_part}
+use Rattle.dos_laws.specs.Taken.{IsPartIn, IsWordOf}
+use Rattle.dos_laws.proofs.LawfulRounds.{lawful-part}
 use Rattle.page_store.specs.Store.{Store, joined, shown, whole, with_home}
 use Rattle.page_store.proofs.Counts.{owned-within}
 use Rattle.page_store.proofs.Joined.{home-at, length-shown}
 use Rattle.page_store.proofs.Pages.{length-whole, written-splice}
 use Rattle.proc_table.specs.Tables.{Tables, thread_by, ran}
 use Rattle.kernel_mem.specs.MemoryWorld.{HasAllHome}
-use Rattle.kernel_calls.specs.StateWorld.{IsCounted}
+use Rattle.kernel_calls.specs.StateWorld.{IsCounted, IsSound, sent, world_of}
+use Rattle.kernel_calls.specs.Committing.{StandsButBytes}
 use Rattle.kernel_calls.specs.declared.state.State.{State}
 use Rattle.kernel_calls.proofs.Counted.{all_counted, counted_like}
-use Rattle.kernel_calls.specs.Committing.{StandsButBytes}
 
 -- ---- bytes that are written, and one of them changed
 
@@ -207,21 +210,46 @@ word-joined s x old new is here wrote =
     joined-by s.pages x.frame x.offset (4096 * x.frame + x.offset) x.mask old new
     (bytes_of 4 x.value) here wrote (word-fits is) refl
 
--- ---- a part
+-- ---- a part that is put into a state
 
--- Where a thread's run is set and bytes are written, a state stays counted.
-pub part-counted : (s : State) (table : Tables) (frames : Store) (t budget : ℕ) (r : Registers)
-    → table ≡ thread_by (ran r budget) s.table t → StandsButBytes s.frames frames → IsCounted s
-    → IsCounted (record s { table = table; frames = frames })
-part-counted s table frames t budget r set_is keeps counted =
-    counted_like s (record s { table = table; frames = frames })
-    (record {
-      home = keeps.home;
-      round = refl;
-      room = ap (λ (T : Tables). T.room) set_is;
-      frames = ap length keeps.owners;
-      uses = keeps.uses;
-      readers = refl;
-      writers = refl;
-      processes = ap (λ (T : Tables). all_counted T.processes) set_is;
-    }) counted
+module _ (s : State) (table : Tables) (frames : Store) (t budget : ℕ) (r : Registers)
+    (words : List Written) (run : table ≡ thread_by (ran r budget) s.table t)
+    (stands : StandsButBytes s.frames frames)
+    (put : joined frames.pages ≡ words_put (joined s.frames.pages) words) where
+  abbrev after : State
+  after = record s { table = table; frames = frames }
+
+  pub part-world : (q : ℕ) (o e : List ℕ)
+      → with_part (sent o e (world_of q s)) t (part r budget words) ≡ sent o e (world_of q after)
+  part-world q o e =
+      ap (λ bytes. shows bytes s.frames.owners (thread_by (ran r budget) s.table t)) (sym put)
+      ∙ ap (λ owners. shows (joined frames.pages) owners (thread_by (ran r budget) s.table t))
+      (sym stands.owners)
+      ∙ ap (λ T. shows (joined frames.pages) frames.owners T) (sym run)
+    where
+      shows : List ℕ → List Owner → Tables → World
+      shows bytes owners T = record (sent o e (world_of q s)) {
+        bytes = bytes;
+        owners = owners;
+        processes = T.processes;
+        threads = T.threads;
+      }
+
+  part-counted : IsCounted s → IsCounted after
+  part-counted counted = counted_like s after (record {
+    home = stands.home;
+    round = refl;
+    room = ap (λ (T : Tables). T.room) run;
+    frames = ap length stands.owners;
+    uses = stands.uses;
+    readers = refl;
+    writers = refl;
+    processes = ap (λ (T : Tables). all_counted T.processes) run;
+  }) counted
+
+  pub part-sound : IsPartIn s.frames.owners (part r budget words) → IsSound s → IsSound after
+  part-sound is sound = record {
+    counted = part-counted sound.counted;
+    lawful = λ q low high. subst Lawful (part-world q [] [])
+        (lawful-part (world_of q s) t (part r budget words) is (sound.lawful q low high));
+  }

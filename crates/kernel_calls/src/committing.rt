@@ -2,12 +2,12 @@
 ghost use Rattle.std.specs.Prelude.{◌≡◌, ◌<◌, ◌%◌, ℕ, List, All};
 ghost use Rattle.dos_world.specs.Bytes.{bytes_of};
 ghost use Rattle.written_words.specs.Words.{word_put, words_put, written_by};
-ghost use Rattle.dos_laws.specs.Taken.{IsWordOf};
+ghost use Rattle.dos_laws.specs.Taken.{IsPartIn, IsWordOf};
 ghost use Rattle.page_store.specs.Store.{joined, whole};
 ghost use Rattle.proc_table.specs.Tables.{IsLiveThread};
 ghost use Rattle.kernel_mem.specs.MemoryWorld.{HasAllHome};
 ghost use Rattle.flat_machine.specs.Buffered.{part, with_part};
-ghost use Rattle.kernel_calls.specs.StateWorld.{IsCounted, StaysInRound, sent, world_of};
+ghost use Rattle.kernel_calls.specs.StateWorld.{IsSound, StaysInRound, sent, world_of};
 ghost use Rattle.kernel_calls.specs.Committing.{StandsButBytes};
 
 use crate::state::State;
@@ -18,13 +18,13 @@ use written_words::{Written, bytes_over};
 /// Sets the thread's registers and budget, and writes into memory, word by word in order, the bytes
 /// of each value that its mask names. All else stays.
 pub fn commit(state: &mut State, tid: u32, regs: Regs, budget: u32, words: &[Written])
-    requires counted { IsCounted state.old }
+    requires sound { IsSound state.old }
     requires live { IsLiveThread state.old.table.threads tid }
-    requires words { All (IsWordOf state.old.frames.owners) words.now }
+    requires part { IsPartIn state.old.frames.owners (part regs budget words.now) }
     ensures commits { (q : ℕ) (o e : List ℕ)
         → with_part (sent o e (world_of q state.old)) tid (part regs budget words.now)
         ≡ sent o e (world_of q state.new) }
-    ensures counted { IsCounted state.new }
+    ensures sound { IsSound state.new }
     ensures round { StaysInRound state.old state.new }
 {
     state.table.set_run(tid, regs, budget);
