@@ -33,7 +33,8 @@ use Rattle.flat_machine.specs.Over.{effect_in, instruction_in, one_in, store_if}
 use Rattle.flat_machine.specs.Buffered.{Part, all_put, as_seen_by, buffer_answers, buffered}
 use Rattle.flat_machine.specs.Buffered.{owner_for, part, part_b, part_from, part_of_thread}
 use Rattle.flat_machine.specs.Buffered.{with_part, words_or_page}
-use Rattle.flat_machine.proofs.Keeps.{bind_ok, length-bytes_of, reached-at, reach-own, store}
+use Rattle.flat_machine.proofs.Keeps.{at≢fault, at≢foreign, bind_ok, length-bytes_of, reached-at}
+use Rattle.flat_machine.proofs.Keeps.{reach-own, store}
 use Rattle.dos_laws.specs.Standing.{LawfulWith}
 use Rattle.dos_laws.specs.Taken.{IsPartIn, IsWordOf}
 use Rattle.dos_laws.proofs.Mapped.{of_thread}
@@ -112,12 +113,6 @@ record IsAtOffset (address : ℕ) (size : Size) (place : ℕ) : Type 0 where
   pub aligned : address % width size ≡ 0
   pub frame : ℕ
   pub is : place ≡ 4096 * frame + address % 4096
-
-at≢fault : {place n : ℕ} → fault n ≡ at place → ⊥
-at≢fault e = cc
-
-at≢foreign : {place n : ℕ} → foreign n ≡ at place → ⊥
-at≢foreign e = cc
 
 reach-offset : (w : World) (t address : ℕ) (size : Size) (access : Access) (place : ℕ)
     → reach w t address size access ≡ at place → IsAtOffset address size place
