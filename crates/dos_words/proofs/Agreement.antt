@@ -64,11 +64,21 @@ shape_at place = unwrap_or (slice_get (built words_app).subs place) (new_shape [
 run_asks : (v w : Values) (names : List Text) → AgreeOn run.options v w
     → run_asked v names ≡ run_asked w names
 run_asks v w names h = let more = h.1.1.1.1 in
-    rw (h.0, h.1.0, h.1.1.0, h.1.1.1.0, more.0, more.1.0, more.1.1.0, more.1.1.1.0) refl
+    rw (
+      h.0,
+      h.1.0,
+      h.1.1.0,
+      h.1.1.1.0,
+      more.0,
+      more.1.0,
+      more.1.1.0,
+      more.1.1.1.0,
+      more.1.1.1.1.0,
+    ) refl
 
 replay_asks : (v w : Values) (names : List Text) → AgreeOn replay.options v w
     → replay_asked v names ≡ replay_asked w names
-replay_asks v w names h = rw (h.0, h.1.0) refl
+replay_asks v w names h = rw (h.0, h.1.0, h.1.1.0) refl
 
 inspect_asks : (v w : Values) (names : List Text) → inspect_asked v names ≡ inspect_asked w names
 inspect_asks v w [] = refl

@@ -17,7 +17,7 @@ use Rattle.dos_words.specs.Numbers.{posts_in_all, colon, comma}
 use Rattle.dos_words.specs.Asked.{Values, number_or, posts_or_none, number_if_given, most_u64}
 use Rattle.dos_words.specs.Asked.{workers_of, images_of, run_asked, replay_asked, inspect_asked}
 use Rattle.dos_words.specs.Asked.{gen_asked, migrate_asked, resume_asked, save_asked}
-use Rattle.dos_words.specs.Asked.{debug_asked, trace_asked}
+use Rattle.dos_words.specs.Asked.{debug_asked, trace_asked, scheme_of}
 use Rattle.dos_words.specs.Commands.{Command, commands, command_named}
 use Rattle.dos_words.specs.Canonical.{pairs_and_names, are_allowed, canonical, values_in}
 use Rattle.dos_words.specs.Clap.{words_app, asked_by, where_taken, values_among, names_among}
@@ -147,14 +147,15 @@ run_fits value names r e =
     let rounds = bind_some (number_or (value (codes "rounds")) 1 1000000 100000) _ r quantum.2 in
     let frames = bind_some (number_or (value (codes "frames")) 16 16384 4096) _ r rounds.2 in
     let workers = bind_some (workers_of value) _ r frames.2 in
-    let posts = bind_some (posts_or_none (value (codes "signals"))) _ r workers.2 in
+    let scheme = bind_some (scheme_of value) _ r workers.2 in
+    let posts = bind_some (posts_or_none (value (codes "signals"))) _ r scheme.2 in
     let start = bind_some (number_if_given (value (codes "clock-from")) 0 most_u64) _ r posts.2 in
     let step = bind_some (number_or (value (codes "clock-step")) 0 most_u64 1) _ r start.2 in
     let log = bind_some (value (codes "log")) _ r step.2 in
     let images = bind_some (images_of names) _ r log.2 in
     let few = posts_or_none_fit (value (codes "signals")) posts.0 posts.1 in
     subst FitsRequest (some_is
-    (Run quantum.0 rounds.0 frames.0 workers.0 posts.0 start.0 step.0 log.0 images.0) r
+    (Run quantum.0 rounds.0 frames.0 workers.0 scheme.0 posts.0 start.0 step.0 log.0 images.0) r
     images.2)
     (record {
       quantum_fits = number_or_fits 16 65536 1000 (value (codes "quantum")) quantum.0
@@ -175,9 +176,10 @@ run_fits value names r e =
 replay_fits : AsksInRange replay_asked
 replay_fits value names r e =
     let workers = bind_some (workers_of value) _ r e in
-    let log = bind_some (value (codes "log")) _ r workers.2 in
+    let scheme = bind_some (scheme_of value) _ r workers.2 in
+    let log = bind_some (value (codes "log")) _ r scheme.2 in
     let images = bind_some (images_of names) _ r log.2 in
-    subst FitsRequest (some_is (Replay workers.0 log.0 images.0) r images.2)
+    subst FitsRequest (some_is (Replay workers.0 scheme.0 log.0 images.0) r images.2)
     (workers_fit value workers.0 workers.1, images_fit names images.0 images.1)
 
 trace_fits : AsksInRange trace_asked

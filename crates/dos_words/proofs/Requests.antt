@@ -4,6 +4,7 @@ use Rattle.std.specs.Prelude.{refl}
 use Rattle.dos_words.specs.declared.request.Request.TheVariants.{Run, Replay, Inspect, Gen}
 use Rattle.dos_words.specs.declared.request.Request.TheVariants.{Debug, Migrate, Trace, Save}
 use Rattle.dos_words.specs.declared.request.Request.TheVariants.{Resume}
+use Rattle.dos_words.specs.declared.request.Scheme.TheVariants.{Ownership, Buffered}
 use Rattle.dos_words.specs.Request.{request}
 use Rattle.dos_world.specs.declared.Post.{Post}
 use Rattle.dos_words.specs.Numbers.{posts_from}
@@ -11,31 +12,33 @@ use Rattle.dos_words.specs.Numbers.{posts_from}
 -- ---- run
 
 defaults : request (codes "run" ∷ codes "--log" ∷ codes "l" ∷ codes "a" ∷ [])
-    ≡ Some (Run 1000 100000 4096 4 [] None 1 (codes "l") (codes "a" ∷ []))
+    ≡ Some (Run 1000 100000 4096 4 Ownership [] None 1 (codes "l") (codes "a" ∷ []))
 defaults = refl
 
 all_options : request (codes "run" ∷ codes "--quantum" ∷ codes "16" ∷ codes "--rounds" ∷ codes "1"
-    ∷ codes "--frames" ∷ codes "17" ∷ codes "--workers" ∷ codes "2" ∷ codes "--signals"
-    ∷ codes "1:1:15,2:3:9" ∷ codes "--clock-from" ∷ codes "5" ∷ codes "--clock-step" ∷ codes "7"
-    ∷ codes "--log" ∷ codes "l" ∷ codes "a" ∷ codes "b" ∷ [])
-    ≡ Some (Run 16 1 17 2
+    ∷ codes "--frames" ∷ codes "17" ∷ codes "--workers" ∷ codes "2" ∷ codes "--scheme"
+    ∷ codes "buffered" ∷ codes "--signals" ∷ codes "1:1:15,2:3:9" ∷ codes "--clock-from"
+    ∷ codes "5" ∷ codes "--clock-step" ∷ codes "7" ∷ codes "--log" ∷ codes "l" ∷ codes "a"
+    ∷ codes "b" ∷ [])
+    ≡ Some (Run 16 1 17 2 Buffered
     ((1, record { pid = 1; signal = 15 }) ∷ (2, record { pid = 3; signal = 9 }) ∷ [])
     (Some 5) 7 (codes "l") (codes "a" ∷ codes "b" ∷ []))
 all_options = refl
 
 any_order : request (codes "run" ∷ codes "--workers" ∷ codes "2" ∷ codes "--log" ∷ codes "l"
     ∷ codes "--quantum" ∷ codes "16" ∷ codes "a" ∷ [])
-    ≡ Some (Run 16 100000 4096 2 [] None 1 (codes "l") (codes "a" ∷ []))
+    ≡ Some (Run 16 100000 4096 2 Ownership [] None 1 (codes "l") (codes "a" ∷ []))
 any_order = refl
 
 -- the step may be given without a start; the host's clock is read then
 step_alone : request (codes "run" ∷ codes "--clock-step" ∷ codes "9" ∷ codes "--log" ∷ codes "l"
-    ∷ codes "a" ∷ []) ≡ Some (Run 1000 100000 4096 4 [] None 9 (codes "l") (codes "a" ∷ []))
+    ∷ codes "a" ∷ [])
+    ≡ Some (Run 1000 100000 4096 4 Ownership [] None 9 (codes "l") (codes "a" ∷ []))
 step_alone = refl
 
 eight_names : request (codes "run" ∷ codes "--log" ∷ codes "l" ∷ codes "a" ∷ codes "b" ∷ codes "c"
     ∷ codes "d" ∷ codes "e" ∷ codes "f" ∷ codes "g" ∷ codes "h" ∷ [])
-    ≡ Some (Run 1000 100000 4096 4 [] None 1 (codes "l")
+    ≡ Some (Run 1000 100000 4096 4 Ownership [] None 1 (codes "l")
     (codes "a" ∷ codes "b" ∷ codes "c" ∷ codes "d" ∷ codes "e" ∷ codes "f" ∷ codes "g"
     ∷ codes "h" ∷ []))
 eight_names = refl
@@ -47,12 +50,12 @@ nine_names = refl
 -- ---- replay, inspect and gen
 
 replay_defaults : request (codes "replay" ∷ codes "--log" ∷ codes "l" ∷ codes "a" ∷ [])
-    ≡ Some (Replay 4 (codes "l") (codes "a" ∷ []))
+    ≡ Some (Replay 4 Ownership (codes "l") (codes "a" ∷ []))
 replay_defaults = refl
 
 replay_options : request (codes "replay" ∷ codes "--workers" ∷ codes "32" ∷ codes "--log"
     ∷ codes "l" ∷ codes "a" ∷ codes "b" ∷ [])
-    ≡ Some (Replay 32 (codes "l") (codes "a" ∷ codes "b" ∷ []))
+    ≡ Some (Replay 32 Ownership (codes "l") (codes "a" ∷ codes "b" ∷ []))
 replay_options = refl
 
 inspect_one : request (codes "inspect" ∷ codes "a" ∷ []) ≡ Some (Inspect (codes "a"))
@@ -123,6 +126,43 @@ debug_no_log = refl
 debug_no_image : request (codes "debug" ∷ codes "--log" ∷ codes "l" ∷ []) ≡ None
 debug_no_image = refl
 
+-- ---- schemes
+
+ownership : request (codes "run" ∷ codes "--scheme" ∷ codes "ownership" ∷ codes "--log" ∷ codes "l"
+    ∷ codes "a" ∷ []) ≡ Some (Run 1000 100000 4096 4 Ownership [] None 1 (codes "l")
+    (codes "a" ∷ []))
+ownership = refl
+
+buffered : request (codes "run" ∷ codes "--scheme" ∷ codes "buffered" ∷ codes "--log" ∷ codes "l"
+    ∷ codes "a" ∷ []) ≡ Some (Run 1000 100000 4096 4 Buffered [] None 1 (codes "l")
+    (codes "a" ∷ []))
+buffered = refl
+
+replay_ownership : request (codes "replay" ∷ codes "--scheme" ∷ codes "ownership" ∷ codes "--log"
+    ∷ codes "l" ∷ codes "a" ∷ []) ≡ Some (Replay 4 Ownership (codes "l") (codes "a" ∷ []))
+replay_ownership = refl
+
+replay_buffered : request (codes "replay" ∷ codes "--log" ∷ codes "l" ∷ codes "--scheme"
+    ∷ codes "buffered" ∷ codes "a" ∷ []) ≡ Some (Replay 4 Buffered (codes "l") (codes "a" ∷ []))
+replay_buffered = refl
+
+-- the whole name, and no other letters
+part_of_scheme : request (codes "run" ∷ codes "--scheme" ∷ codes "buffer" ∷ codes "--log"
+    ∷ codes "l" ∷ codes "a" ∷ []) ≡ None
+part_of_scheme = refl
+
+more_than_scheme : request (codes "run" ∷ codes "--scheme" ∷ codes "buffered2" ∷ codes "--log"
+    ∷ codes "l" ∷ codes "a" ∷ []) ≡ None
+more_than_scheme = refl
+
+capital_scheme : request (codes "run" ∷ codes "--scheme" ∷ codes "Ownership" ∷ codes "--log"
+    ∷ codes "l" ∷ codes "a" ∷ []) ≡ None
+capital_scheme = refl
+
+replay_other_scheme : request (codes "replay" ∷ codes "--scheme" ∷ codes "shared" ∷ codes "--log"
+    ∷ codes "l" ∷ codes "a" ∷ []) ≡ None
+replay_other_scheme = refl
+
 -- ---- the bounds of each number: the lowest and the highest, and one past them
 
 quantum_below : request (codes "run" ∷ codes "--quantum" ∷ codes "15" ∷ codes "--log" ∷ codes "l"
@@ -130,12 +170,12 @@ quantum_below : request (codes "run" ∷ codes "--quantum" ∷ codes "15" ∷ co
 quantum_below = refl
 
 quantum_lowest : request (codes "run" ∷ codes "--quantum" ∷ codes "16" ∷ codes "--log" ∷ codes "l"
-    ∷ codes "a" ∷ []) ≡ Some (Run 16 100000 4096 4 [] None 1 (codes "l") (codes "a" ∷ []))
+    ∷ codes "a" ∷ []) ≡ Some (Run 16 100000 4096 4 Ownership [] None 1 (codes "l") (codes "a" ∷ []))
 quantum_lowest = refl
 
 quantum_highest : request
     (codes "run" ∷ codes "--quantum" ∷ codes "65536" ∷ codes "--log" ∷ codes "l" ∷ codes "a"
-    ∷ []) ≡ Some (Run 65536 100000 4096 4 [] None 1 (codes "l") (codes "a" ∷ []))
+    ∷ []) ≡ Some (Run 65536 100000 4096 4 Ownership [] None 1 (codes "l") (codes "a" ∷ []))
 quantum_highest = refl
 
 quantum_above : request (codes "run" ∷ codes "--quantum" ∷ codes "65537" ∷ codes "--log" ∷ codes "l"
@@ -147,12 +187,12 @@ rounds_below : request (codes "run" ∷ codes "--rounds" ∷ codes "0" ∷ codes
 rounds_below = refl
 
 rounds_lowest : request (codes "run" ∷ codes "--rounds" ∷ codes "1" ∷ codes "--log" ∷ codes "l"
-    ∷ codes "a" ∷ []) ≡ Some (Run 1000 1 4096 4 [] None 1 (codes "l") (codes "a" ∷ []))
+    ∷ codes "a" ∷ []) ≡ Some (Run 1000 1 4096 4 Ownership [] None 1 (codes "l") (codes "a" ∷ []))
 rounds_lowest = refl
 
 rounds_highest : request (codes "run" ∷ codes "--rounds" ∷ codes "1000000" ∷ codes "--log"
     ∷ codes "l" ∷ codes "a" ∷ [])
-    ≡ Some (Run 1000 1000000 4096 4 [] None 1 (codes "l") (codes "a" ∷ []))
+    ≡ Some (Run 1000 1000000 4096 4 Ownership [] None 1 (codes "l") (codes "a" ∷ []))
 rounds_highest = refl
 
 rounds_above : request (codes "run" ∷ codes "--rounds" ∷ codes "1000001" ∷ codes "--log" ∷ codes "l"
@@ -164,11 +204,12 @@ frames_below : request (codes "run" ∷ codes "--frames" ∷ codes "15" ∷ code
 frames_below = refl
 
 frames_lowest : request (codes "run" ∷ codes "--frames" ∷ codes "16" ∷ codes "--log" ∷ codes "l"
-    ∷ codes "a" ∷ []) ≡ Some (Run 1000 100000 16 4 [] None 1 (codes "l") (codes "a" ∷ []))
+    ∷ codes "a" ∷ []) ≡ Some (Run 1000 100000 16 4 Ownership [] None 1 (codes "l") (codes "a" ∷ []))
 frames_lowest = refl
 
 frames_highest : request (codes "run" ∷ codes "--frames" ∷ codes "16384" ∷ codes "--log" ∷ codes "l"
-    ∷ codes "a" ∷ []) ≡ Some (Run 1000 100000 16384 4 [] None 1 (codes "l") (codes "a" ∷ []))
+    ∷ codes "a" ∷ [])
+    ≡ Some (Run 1000 100000 16384 4 Ownership [] None 1 (codes "l") (codes "a" ∷ []))
 frames_highest = refl
 
 frames_above : request (codes "run" ∷ codes "--frames" ∷ codes "16385" ∷ codes "--log" ∷ codes "l"
@@ -180,11 +221,13 @@ workers_below : request (codes "run" ∷ codes "--workers" ∷ codes "0" ∷ cod
 workers_below = refl
 
 workers_lowest : request (codes "run" ∷ codes "--workers" ∷ codes "1" ∷ codes "--log" ∷ codes "l"
-    ∷ codes "a" ∷ []) ≡ Some (Run 1000 100000 4096 1 [] None 1 (codes "l") (codes "a" ∷ []))
+    ∷ codes "a" ∷ [])
+    ≡ Some (Run 1000 100000 4096 1 Ownership [] None 1 (codes "l") (codes "a" ∷ []))
 workers_lowest = refl
 
 workers_highest : request (codes "run" ∷ codes "--workers" ∷ codes "32" ∷ codes "--log" ∷ codes "l"
-    ∷ codes "a" ∷ []) ≡ Some (Run 1000 100000 4096 32 [] None 1 (codes "l") (codes "a" ∷ []))
+    ∷ codes "a" ∷ [])
+    ≡ Some (Run 1000 100000 4096 32 Ownership [] None 1 (codes "l") (codes "a" ∷ []))
 workers_highest = refl
 
 workers_above : request (codes "run" ∷ codes "--workers" ∷ codes "33" ∷ codes "--log" ∷ codes "l"
@@ -193,12 +236,13 @@ workers_above = refl
 
 clock_from_lowest : request
     (codes "run" ∷ codes "--clock-from" ∷ codes "0" ∷ codes "--log" ∷ codes "l" ∷ codes "a"
-    ∷ []) ≡ Some (Run 1000 100000 4096 4 [] (Some 0) 1 (codes "l") (codes "a" ∷ []))
+    ∷ []) ≡ Some (Run 1000 100000 4096 4 Ownership [] (Some 0) 1 (codes "l") (codes "a" ∷ []))
 clock_from_lowest = refl
 
 clock_from_highest : request (codes "run" ∷ codes "--clock-from" ∷ codes "18446744073709551615"
     ∷ codes "--log" ∷ codes "l" ∷ codes "a" ∷ [])
-    ≡ Some (Run 1000 100000 4096 4 [] (Some 18446744073709551615) 1 (codes "l") (codes "a" ∷ []))
+    ≡ Some (Run 1000 100000 4096 4 Ownership [] (Some 18446744073709551615) 1
+    (codes "l") (codes "a" ∷ []))
 clock_from_highest = refl
 
 clock_from_above : request (codes "run" ∷ codes "--clock-from" ∷ codes "18446744073709551616"
@@ -207,12 +251,13 @@ clock_from_above = refl
 
 clock_step_lowest : request
     (codes "run" ∷ codes "--clock-step" ∷ codes "0" ∷ codes "--log" ∷ codes "l" ∷ codes "a"
-    ∷ []) ≡ Some (Run 1000 100000 4096 4 [] None 0 (codes "l") (codes "a" ∷ []))
+    ∷ []) ≡ Some (Run 1000 100000 4096 4 Ownership [] None 0 (codes "l") (codes "a" ∷ []))
 clock_step_lowest = refl
 
 clock_step_highest : request (codes "run" ∷ codes "--clock-step" ∷ codes "18446744073709551615"
     ∷ codes "--log" ∷ codes "l" ∷ codes "a" ∷ [])
-    ≡ Some (Run 1000 100000 4096 4 [] None 18446744073709551615 (codes "l") (codes "a" ∷ []))
+    ≡ Some (Run 1000 100000 4096 4 Ownership [] None 18446744073709551615
+    (codes "l") (codes "a" ∷ []))
 clock_step_highest = refl
 
 clock_step_above : request (codes "run" ∷ codes "--clock-step" ∷ codes "18446744073709551616"
@@ -239,14 +284,14 @@ threads_above = refl
 
 post_lowest : request (codes "run" ∷ codes "--signals" ∷ codes "1:1:1" ∷ codes "--log" ∷ codes "l"
     ∷ codes "a" ∷ [])
-    ≡ Some (Run 1000 100000 4096 4 ((1, record { pid = 1; signal = 1 }) ∷ []) None 1 (codes "l")
-    (codes "a" ∷ []))
+    ≡ Some (Run 1000 100000 4096 4 Ownership ((1, record { pid = 1; signal = 1 }) ∷ [])
+    None 1 (codes "l") (codes "a" ∷ []))
 post_lowest = refl
 
 post_highest : request (codes "run" ∷ codes "--signals" ∷ codes "1000000:65535:31" ∷ codes "--log"
     ∷ codes "l" ∷ codes "a" ∷ [])
-    ≡ Some (Run 1000 100000 4096 4 ((1000000, record { pid = 65535; signal = 31 }) ∷ []) None 1
-    (codes "l") (codes "a" ∷ []))
+    ≡ Some (Run 1000 100000 4096 4 Ownership ((1000000, record { pid = 65535; signal = 31 }) ∷ [])
+    None 1 (codes "l") (codes "a" ∷ []))
 post_highest = refl
 
 post_round_below : request
@@ -304,7 +349,8 @@ posts_33 = refl
 -- ---- how a number is spelled
 
 zero : request (codes "run" ∷ codes "--clock-step" ∷ codes "0" ∷ codes "--log" ∷ codes "l"
-    ∷ codes "a" ∷ []) ≡ Some (Run 1000 100000 4096 4 [] None 0 (codes "l") (codes "a" ∷ []))
+    ∷ codes "a" ∷ [])
+    ≡ Some (Run 1000 100000 4096 4 Ownership [] None 0 (codes "l") (codes "a" ∷ []))
 zero = refl
 
 leading_zero : request (codes "run" ∷ codes "--clock-step" ∷ codes "01" ∷ codes "--log" ∷ codes "l"
@@ -317,7 +363,8 @@ two_zeros = refl
 
 digits_20 : request (codes "run" ∷ codes "--clock-step" ∷ codes "10000000000000000000"
     ∷ codes "--log" ∷ codes "l" ∷ codes "a" ∷ [])
-    ≡ Some (Run 1000 100000 4096 4 [] None 10000000000000000000 (codes "l") (codes "a" ∷ []))
+    ≡ Some (Run 1000 100000 4096 4 Ownership [] None 10000000000000000000
+    (codes "l") (codes "a" ∷ []))
 digits_20 = refl
 
 digits_21 : request (codes "run" ∷ codes "--clock-step" ∷ codes "100000000000000000000"

@@ -2,12 +2,14 @@
 -- option that isn't given. This project's own rule. Whoever has read the words says the value of an
 -- option by its name without the dashes.
 use Rattle.std.specs.Prelude.{ℕ, ◌-◌, ◌^◌, List, [], ◌∷◌, length, Option, Some, None, if◌then◌else◌}
-use Rattle.std.specs.Prelude.{codes}
+use Rattle.std.specs.Prelude.{bytes_eq, codes}
 use Rattle.std.specs.Int.{is_in_range}
 use Rattle.std.specs.Option.{option_map_or}
 use Rattle.dos_world.specs.declared.Post.{Post}
 use Rattle.dos_words.specs.Numbers.{Text, ◌>>=◌, number_within, posts_from}
 use Rattle.dos_words.specs.declared.request.Request.{Request}
+use Rattle.dos_words.specs.declared.request.Scheme.{Scheme}
+use Rattle.dos_words.specs.declared.request.Scheme.TheVariants.{Ownership, Buffered}
 use Rattle.dos_words.specs.declared.request.Request.TheVariants.{Run, Replay, Inspect, Gen}
 use Rattle.dos_words.specs.declared.request.Request.TheVariants.{Debug, Migrate, Trace, Save}
 use Rattle.dos_words.specs.declared.request.Request.TheVariants.{Resume}
@@ -39,6 +41,16 @@ most_u64 = 2 ^ 64 - 1
 abbrev pub workers_of : Values → Option ℕ
 workers_of value = number_or (value (codes "workers")) 1 32 4
 
+-- the scheme of this name
+abbrev pub scheme_named : Text → Option Scheme
+scheme_named name =
+    if bytes_eq name (codes "ownership") then Some Ownership
+    else (if bytes_eq name (codes "buffered") then Some Buffered else None)
+
+-- the scheme that is named, else that of ownership
+abbrev pub scheme_of : Values → Option Scheme
+scheme_of value = option_map_or scheme_named (value (codes "scheme")) (Some Ownership)
+
 -- one to eight names of images
 abbrev pub images_of : List Text → Option (List Text)
 images_of names = if is_in_range 1 8 (length names) then Some names else None
@@ -52,20 +64,22 @@ run_asked value names = do
   rounds ← number_or (value (codes "rounds")) 1 1000000 100000
   frames ← number_or (value (codes "frames")) 16 16384 4096
   workers ← workers_of value
+  scheme ← scheme_of value
   posts ← posts_or_none (value (codes "signals"))
   clock_from ← number_if_given (value (codes "clock-from")) 0 most_u64
   clock_step ← number_or (value (codes "clock-step")) 0 most_u64 1
   log ← value (codes "log")
   images ← images_of names
-  Some (Run quantum rounds frames workers posts clock_from clock_step log images)
+  Some (Run quantum rounds frames workers scheme posts clock_from clock_step log images)
 
 -- `replay`
 abbrev pub replay_asked : Values → List Text → Option Request
 replay_asked value names = do
   workers ← workers_of value
+  scheme ← scheme_of value
   log ← value (codes "log")
   images ← images_of names
-  Some (Replay workers log images)
+  Some (Replay workers scheme log images)
 
 -- `trace`, as `replay`
 abbrev pub trace_asked : Values → List Text → Option Request

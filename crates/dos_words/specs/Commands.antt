@@ -17,8 +17,8 @@ abbrev pub run : Command
 run = record {
   name = codes "run";
   options =
-      codes "quantum" ∷ codes "rounds" ∷ codes "frames" ∷ codes "workers" ∷ codes "signals"
-      ∷ codes "clock-from" ∷ codes "clock-step" ∷ codes "log" ∷ [];
+      codes "quantum" ∷ codes "rounds" ∷ codes "frames" ∷ codes "workers" ∷ codes "scheme"
+      ∷ codes "signals" ∷ codes "clock-from" ∷ codes "clock-step" ∷ codes "log" ∷ [];
   has_names = true;
   asked = run_asked;
 }
@@ -27,7 +27,7 @@ run = record {
 abbrev pub replay : Command
 replay = record {
   name = codes "replay";
-  options = codes "workers" ∷ codes "log" ∷ [];
+  options = codes "workers" ∷ codes "scheme" ∷ codes "log" ∷ [];
   has_names = true;
   asked = replay_asked;
 }

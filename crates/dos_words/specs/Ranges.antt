@@ -31,9 +31,10 @@ pub record FitsRun (quantum rounds frames workers : ℕ) (posts : List (ℕ × P
 
 -- of each request
 abbrev pub FitsRequest : Request → Type 0
-FitsRequest (Run quantum rounds frames workers posts clock_from clock_step log names) =
+FitsRequest (Run quantum rounds frames workers scheme posts clock_from clock_step log names) =
     FitsRun quantum rounds frames workers posts clock_from clock_step names
-FitsRequest (Replay workers log names) = IsInRange 1 32 workers × IsInRange 1 8 (length names)
+FitsRequest (Replay workers scheme log names) =
+    IsInRange 1 32 workers × IsInRange 1 8 (length names)
 FitsRequest (Inspect name) = ⊤
 FitsRequest (Gen number threads workers) =
     (number ≤ 4294967295) × IsInRange 1 32 threads × IsInRange 1 32 workers

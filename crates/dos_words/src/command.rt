@@ -104,6 +104,7 @@ fn run_command<'a>(alloc: Global) -> Result<Command<'a>, AllocError>
         "rounds",
         "frames",
         "workers",
+        "scheme",
         "signals",
         "clock-from",
         "clock-step",
@@ -117,7 +118,7 @@ fn replay_command<'a>(alloc: Global) -> Result<Command<'a>, AllocError>
     ensures shape { IfOk result (λ c. shape_of c ≡ command_shape replay) }
     ensures local { IfOk result (λ c. (fields_of c).has_globals ≡ false) }
 {
-    let options = ["workers", "log"];
+    let options = ["workers", "scheme", "log"];
     let command = with_options(alloc, Command::new(alloc, "replay"), &options);
     with_names(alloc, command)
 }

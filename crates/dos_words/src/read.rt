@@ -7,7 +7,7 @@ ghost use Rattle.dos_words.specs.Numbers.{number_within};
 ghost use Rattle.dos_words.specs.Asked.{most_u64, number_or, number_if_given, posts_or_none};
 ghost use Rattle.dos_words.specs.Asked.{images_of, run_asked, replay_asked, inspect_asked};
 ghost use Rattle.dos_words.specs.Asked.{gen_asked, migrate_asked, resume_asked, save_asked};
-ghost use Rattle.dos_words.specs.Asked.{debug_asked, trace_asked};
+ghost use Rattle.dos_words.specs.Asked.{debug_asked, trace_asked, scheme_named, scheme_of};
 ghost use Rattle.dos_words.specs.Clap.{words_app, asked_by, clap_request};
 ghost use Rattle.dos_words.specs.Request.{request};
 ghost use Rattle.dos_words.specs.Reads.{Reads, Takes, values_found, names_given, names_found};
@@ -17,7 +17,7 @@ use crate::command::words_command;
 use crate::error::WordsError;
 use crate::number::{number_within, small_within};
 use crate::posts::read_posts;
-use crate::request::{Names, Posts, Request, Text};
+use crate::request::{Names, Posts, Request, Scheme, Text};
 use clap::error::ErrorKind;
 use clap::{ArgMatches, Command, Error};
 use std::alloc::Global;
@@ -43,6 +43,29 @@ fn number_of(matches: &ArgMatches<'_>, name: &str, low: u32, high: u32, default:
     match value_of(matches, name) {
         None => Some(default),
         Some(text) => small_within(low, high, text),
+    }
+}
+
+/// The scheme of this name.
+fn scheme_named(name: &str) -> Option<Scheme>
+    ensures { result ≡ scheme_named name.now }
+{
+    if name == "ownership" {
+        return Some(Scheme::Ownership);
+    }
+    if name == "buffered" {
+        return Some(Scheme::Buffered);
+    }
+    None
+}
+
+/// The scheme that is named, or that of ownership where none is.
+fn scheme_of(matches: &ArgMatches<'_>) -> Option<Scheme>
+    ensures { result ≡ scheme_of (values_found matches.now) }
+{
+    match value_of(matches, "scheme") {
+        None => Some(Scheme::Ownership),
+        Some(name) => scheme_named(name),
     }
 }
 
@@ -172,6 +195,9 @@ fn read_run(alloc: Global, matches: &ArgMatches<'_>) -> Result<Request, WordsErr
     let Some(limits) = limits_of(matches) else {
         return Err(WordsError::Refused);
     };
+    let Some(scheme) = scheme_of(matches) else {
+        return Err(WordsError::Refused);
+    };
     let Some((clock_from, clock_step)) = clock_of(matches) else {
         return Err(WordsError::Refused);
     };
@@ -182,6 +208,7 @@ fn read_run(alloc: Global, matches: &ArgMatches<'_>) -> Result<Request, WordsErr
         rounds: limits.rounds,
         frames: limits.frames,
         workers: limits.workers,
+        scheme,
         posts,
         clock_from,
         clock_step,
@@ -197,9 +224,13 @@ fn read_replay(alloc: Global, matches: &ArgMatches<'_>) -> Result<Request, Words
     let Some(workers) = number_of(matches, "workers", 1, 32, 4) else {
         return Err(WordsError::Refused);
     };
+    let Some(scheme) = scheme_of(matches) else {
+        return Err(WordsError::Refused);
+    };
     let (log, names) = files_of(alloc, matches)?;
     Ok(Request::Replay {
         workers,
+        scheme,
         log,
         names,
     })

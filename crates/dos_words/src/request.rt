@@ -130,6 +130,17 @@ impl Posts {
     }
 }
 
+/// How the threads of a round see memory before its serial phase.
+#[derive(Clone, Copy, Debug, PartialEq)]
+pub enum Scheme {
+    /// A page is one thread's, or shared for reading. Who meets another's page waits for the
+    /// serial phase.
+    Ownership,
+    /// Each thread works on memory as the round began and on the words that it has written itself.
+    /// These are put in memory in thread order before the serial phase.
+    Buffered,
+}
+
 /// What the words ask for.
 #[derive(Drop)]
 pub enum Request {
@@ -143,6 +154,8 @@ pub enum Request {
         frames: u32,
         /// How many threads of the host run the rounds: 1 to 32.
         workers: u32,
+        /// How the threads of a round see memory.
+        scheme: Scheme,
         /// At most 32 signals, in the order of the words.
         posts: Posts,
         /// The first reading of a counted clock; without it the host's clock is read.
@@ -158,6 +171,8 @@ pub enum Request {
     Replay {
         /// How many threads of the host run the rounds: 1 to 32.
         workers: u32,
+        /// How the threads of a round see memory.
+        scheme: Scheme,
         /// The file of the log.
         log: Text,
         /// The files of the images, 1 to 8.

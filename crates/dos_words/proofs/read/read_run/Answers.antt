@@ -5,6 +5,9 @@ use Rattle.dos_words.proofs.read.read_run.Goals as goal
 pub returns-in_default : goal.returns-in_default
 returns-in_default c = rw run_in_parts (search rules)
 
+pub returns-in_default-scheme_of : goal.returns-in_default-scheme_of
+returns-in_default-scheme_of c = rw run_in_parts (search rules)
+
 pub returns-in_default-clock_of : goal.returns-in_default-clock_of
 returns-in_default-clock_of c = rw run_in_parts (search rules)
 
