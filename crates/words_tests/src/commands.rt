@@ -96,6 +96,7 @@ fn replays(alloc: Global, texts: &[&str], wanted: u32) -> bool {
                 workers,
                 log,
                 names,
+                ..
             },
         ) => workers == wanted && log.as_str() == "l" && are_names(&names, &["a", "b"]),
         _ => false,

@@ -13,3 +13,5 @@ mod posts;
 mod refusals;
 #[cfg(test)]
 mod requests;
+#[cfg(test)]
+mod schemes;
