@@ -1,11 +1,11 @@
 # Sourced: what the launcher `dos` says of words beyond what the program does. Each call below takes
 # the words, and prints a line, or nothing.
 
-# Of each command, its options with what their values are: LOW-HIGH, a file, or a text.
+# Of each command, its options with what their values are: LOW-HIGH, a file, a scheme, or a text.
 declare -A options_of=(
   [run]='--log=file --quantum=16-65536 --rounds=1-1000000 --frames=16-16384 --workers=1-32
-    --signals=signals --clock-from=number --clock-step=number'
-  [replay]='--log=file --workers=1-32'
+    --scheme=scheme --signals=signals --clock-from=number --clock-step=number'
+  [replay]='--log=file --workers=1-32 --scheme=scheme'
   [inspect]=''
   [gen]='--number=number --threads=1-32 --workers=1-32'
   [migrate]='--log=file --to=file'
@@ -28,6 +28,7 @@ why_not() {
   local post low=${2%-*} high=${2#*-}
   case $2 in
     file) [ -n "$1" ] || echo "a file's name" ;;
+    scheme) case $1 in ownership|buffered) ;; *) echo 'ownership or buffered' ;; esac ;;
     signals)
       for post in ${1//,/ } ''; do
         [[ $post =~ ^$|^[1-9][0-9]*:[0-9]+:([1-9]|[12][0-9]|3[01])$ ]] && continue
