@@ -25,6 +25,7 @@ use Rattle.dos_texts.specs.declared.refusal.Refusal.TheVariants as refusals
 use Rattle.dos_words.specs.Numbers.{Text}
 use Rattle.dos_words.specs.Request.{request}
 use Rattle.dos_words.specs.declared.request.Request.{Request}
+use Rattle.dos_words.specs.declared.request.Scheme.{Scheme}
 use Rattle.dos_words.specs.declared.request.Request.TheVariants.{Run, Replay, Gen, Migrate}
 use Rattle.dos_words.specs.declared.request.Request.TheVariants.{Save, Resume}
 use Rattle.dos_words.specs.declared.request.Request.TheVariants.{Trace}
@@ -118,9 +119,10 @@ finished_not_refused words n o asked why h ask told =
     (ap (judgement o.files) (asked_once words h.asked asked h.asks ask) ∙ told)
 
 -- a log that fits has no misfit, so what was replayed had to be
-replayed_must : (words : List Text) (w : ℕ) (log : Text) (names : List Text) (taken : Taken) (n : ℕ)
-    (o : Outside) → Did (Replay w log names) taken n o → MustDo (Replay w log names) taken n o
-replayed_must words w log names taken n o h = of_log taken.log h
+replayed_must : (words : List Text) (w : ℕ) (s : Scheme) (log : Text) (names : List Text)
+    (taken : Taken) (n : ℕ) (o : Outside) → Did (Replay w s log names) taken n o
+    → MustDo (Replay w s log names) taken n o
+replayed_must words w s log names taken n o h = of_log taken.log h
   where
     of_log : (read : Option Log) → OfLog read (λ l. DidReplay l taken.images n o)
         → OfLog read (λ l. MustReplay (misfit taken.images (config_of l.header) (exchanges l)) l
@@ -187,7 +189,7 @@ resumed_must w log from taken n o h =
 
 did_must : (words : List Text) (asked : Request) (taken : Taken) (n : ℕ) (o : Outside)
     → Did asked taken n o → MustDo asked taken n o
-did_must words (Replay w log names) taken n o h = replayed_must words w log names taken n o h
+did_must words (Replay w s log names) taken n o h = replayed_must words w s log names taken n o h
 did_must words (Trace w log names) taken n o h = traced_must w log names taken n o h
 did_must words (Migrate log to) taken n o h = h
 did_must words (Save w log round to names) taken n o h =
@@ -240,7 +242,7 @@ leaves_status asked o f why other last h told a b d =
 misfit_must : (asked : Request) (taken : Taken) (found : Misfit) (n : ℕ) (o : Outside)
     → n ≡ refusal_status (refusals.Misfit found)
     → HasMisfit asked taken found (line_of (refusals.Misfit found)) o → MustDo asked taken n o
-misfit_must (Replay w log names) taken found n o is h = of_log taken.log h
+misfit_must (Replay w s log names) taken found n o is h = of_log taken.log h
   where
     of_log : (read : Option Log)
         → OfLog read (λ l. Misfitted l taken.images found (line_of (refusals.Misfit found)) o)
@@ -282,7 +284,7 @@ misfit_must asked taken found n o is h = absurd h
 -- of a log that is full, in a run
 full_must : (asked : Request) (taken : Taken) (last : List ℕ) (n : ℕ) (o : Outside) → n ≡ 10
     → WasStopped asked taken stops.LogFull last o → MustDo asked taken n o
-full_must (Run q r f w posts from step log names) taken last n o is h = λ full. absurd (full is)
+full_must (Run q r f w s posts from step log names) taken last n o is h = λ full. absurd (full is)
 full_must asked taken last n o is h = absurd h
 
 full_log_must : (asked : Request) (taken : Taken) (o : Outside) (n : ℕ) → n ≡ 10
@@ -429,10 +431,11 @@ are_planned (post ∷ posts) h = (
   are_planned posts h.1,
 )
 
-pub fits_run : (asked : Request) (q r f w : ℕ) (posts : List (ℕ × Post)) (start : Option ℕ)
-    (step : ℕ) (log : Text) (names : List Text) → asked ≡ Run q r f w posts start step log names
-    → FitsRequest asked → FitsRun q r f w posts start step names
-fits_run asked q r f w posts start step log names is fits = subst FitsRequest is fits
+pub fits_run : (asked : Request) (q r f w : ℕ) (s : Scheme) (posts : List (ℕ × Post))
+    (start : Option ℕ) (step : ℕ) (log : Text) (names : List Text)
+    → asked ≡ Run q r f w s posts start step log names → FitsRequest asked
+    → FitsRun q r f w posts start step names
+fits_run asked q r f w s posts start step log names is fits = subst FitsRequest is fits
 
 pub fits_gen : (asked : Request) (number threads w : ℕ) → asked ≡ Gen number threads w
     → FitsRequest asked → IsInRange 1 32 threads

@@ -191,7 +191,7 @@ pub repeats : (first words : List Text) (status n : ℕ) (o p : Outside) → Was
     → judgement p.files asked ≡ Some (Ok taken) → MustDo asked taken n p)
     → ShowTheSame status o n p
 repeats first words status n o p done s must =
-    let asked : Request = run_asked_with s.asked s.workers in
+    let asked : Request = run_asked_with s.asked s.workers s.scheme in
     let begun : Begun asked o (λ taken. Did asked taken status o) =
     subst (λ (a : Request). Begun a o (λ taken. Did a taken status o))
     (asked_once first done.asked asked done.asks s.asks_run) done.begun in
@@ -202,7 +202,7 @@ repeats first words status n o p done s must =
     (option_map (λ i. of_images (with_room s.asked.config i)) t) (λ j. j ≡ Ok begun.taken)) found.1
     begun.is) in
     shown_again o p s.asked images status n begun.so
-    (must (Replay s.workers_again s.log s.names)
+    (must (Replay s.workers_again s.scheme s.log s.names)
     (taken_log begun.so.log images) s.asks_replay
     (files_again o p s.asked images status n begun.so s.log s.names s.digests found.0 s.all_told
     s.are_there found.1 taken.0 taken.1 s.same_log s.same_images))

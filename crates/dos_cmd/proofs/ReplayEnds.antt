@@ -26,6 +26,7 @@ use Rattle.dos_texts.specs.declared.refusal.Refusal.{Refusal}
 use Rattle.dos_texts.specs.declared.refusal.Refusal.TheVariants as refusals
 use Rattle.dos_words.specs.Numbers.{Text}
 use Rattle.dos_words.specs.declared.request.Request.TheVariants as requests
+use Rattle.dos_words.specs.declared.request.Scheme.{Scheme}
 use Rattle.dos_cmd.proofs.Asked.{IsLater, later_replay}
 use Rattle.dos_cmd.specs.Judging.{Judgement, agreed, replay_judgement, taken_log}
 use Rattle.dos_cmd.specs.Outside.{Outside, Faults, outside, faults, Says}
@@ -195,36 +196,36 @@ pub replay_begun : (log : Log) (images : List Image) (name : Text) (names : List
     → IfOk r (λ ended. (tells : Bool) (f f' : Text → Option (List ℕ)) (h : HostSeen)
     → ((n : Text) → f' n ≡ f n) → DidReplay log images (ending_status ended)
     (outside tells f f' h h out out1 err err1 tally tally1))
-    → (n : ℕ) (h : HostSeen) → IfOk r (λ ended. Begun (requests.Replay n name names)
+    → (n : ℕ) (s : Scheme) (h : HostSeen) → IfOk r (λ ended. Begun (requests.Replay n s name names)
     (outside tells f f' h h out out1 err err1 tally tally1)
-    (λ taken. Did (requests.Replay n name names) taken (ending_status ended)
+    (λ taken. Did (requests.Replay n s name names) taken (ending_status ended)
     (outside tells f f' h h out out1 err err1 tally tally1)))
 replay_begun log images name names tells f f' out err out1 err1 tally tally1 (Err why) told fits
-    stay did = λ n h. tt
+    stay did = λ n s h. tt
 replay_begun log images name names tells f f' out err out1 err1 tally tally1 (Ok ended) told fits
-    stay did = λ n h. record {
+    stay did = λ n s h. record {
       taken = taken_log log images;
       is = room_taken (replay_judgement (f name) (map f names)) log images fits told;
       so = did tells f f' h stay;
     }
 
 leaves_taken : (log : Log) (images : List Image) (name : Text) (names : List Text) (n : ℕ)
-    (o : Outside) (f : Faults) (why : Refusal)
+    (s : Scheme) (o : Outside) (f : Faults) (why : Refusal)
     → IfSome (replay_judgement (o.files name) (map o.files names))
     (λ j. j ≡ agreed log images None) → LeavesTaken log images o f why
-    → Leaves (requests.Replay n name names) o f why []
-leaves_taken log images name names n o f (refusals.NoRoom m frames) told h = record {
+    → Leaves (requests.Replay n s name names) o f why []
+leaves_taken log images name names n s o f (refusals.NoRoom m frames) told h = record {
   is = subst (λ (w : Refusal). IfSome (replay_judgement (o.files name) (map o.files names))
       (λ j. j ≡ Err w)) (no_room_so m frames (needed images) log.header.frames h.0 h.1)
       (room_refused (replay_judgement (o.files name) (map o.files names)) log images h.2 told);
   says = h.3;
 }
-leaves_taken log images name names n o f (refusals.Misfit found) told h = record {
+leaves_taken log images name names n s o f (refusals.Misfit found) told h = record {
   taken = taken_log log images;
   is = room_taken (replay_judgement (o.files name) (map o.files names)) log images h.0 told;
   so = h.1;
 }
-leaves_taken log images name names n o f refusals.Sink told h = (
+leaves_taken log images name names n s o f refusals.Sink told h = (
   h.1,
   refl,
   record {
@@ -233,8 +234,8 @@ leaves_taken log images name names n o f refusals.Sink told h = (
     so = h.2;
   },
 )
-leaves_taken log images name names n o f refusals.Memory told h = inl h
-leaves_taken log images name names n o f why told h = absurd h
+leaves_taken log images name names n s o f refusals.Memory told h = inl h
+leaves_taken log images name names n s o f why told h = absurd h
 
 pub replay_leaves : (log : Log) (images : List Image) (name : Text) (names : List Text)
     (tells : Bool) (f f' : Text → Option (List ℕ)) (out err out1 err1 : Option (List ℕ))
@@ -244,13 +245,14 @@ pub replay_leaves : (log : Log) (images : List Image) (name : Text) (names : Lis
     → IfErr r (λ why. (tells : Bool) (f f' : Text → Option (List ℕ)) (h : HostSeen)
     (k k' m : ℕ) → ((n : Text) → f' n ≡ f n) → LeavesTaken log images
     (outside tells f f' h h out out1 err err1 tally tally1) (faults k k' m m oc oc1 ec ec1) why)
-    → (n : ℕ) (h : HostSeen) (m : ℕ) → IfErr r (λ why. Leaves (requests.Replay n name names)
+    → (n : ℕ) (s : Scheme) (h : HostSeen) (m : ℕ) → IfErr r (λ why.
+    Leaves (requests.Replay n s name names)
     (outside tells f f' h h out out1 err err1 tally tally1) (faults k k' m m oc oc1 ec ec1) why [])
 replay_leaves log images name names tells f f' out err out1 err1 tally tally1 k k' oc oc1 ec ec1
-    (Ok ended) told stay leaves = λ n h m. tt
+    (Ok ended) told stay leaves = λ n s h m. tt
 replay_leaves log images name names tells f f' out err out1 err1 tally tally1 k k' oc oc1 ec ec1
-    (Err why) told stay leaves = λ n h m.
-    leaves_taken log images name names n (outside tells f f' h h out out1 err err1 tally tally1)
+    (Err why) told stay leaves = λ n s h m.
+    leaves_taken log images name names n s (outside tells f f' h h out out1 err err1 tally tally1)
     (faults k k' m m oc oc1 ec ec1) why told (leaves tells f f' h k k' m stay)
 
 -- All files were read before.

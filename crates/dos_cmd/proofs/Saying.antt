@@ -82,7 +82,7 @@ module _ (o : Outside) (e : Option (List ℕ)) (last : List ℕ) (more : e ≡ g
 
     stopped_more : (asked : Request) (taken : Taken) (stop : ShimStop)
         → WasStopped asked taken stop [] o → WasStopped asked taken stop last (with_error o e)
-    stopped_more (Run q r f w posts from step log names) taken stop h = record {
+    stopped_more (Run q r f w s posts from step log names) taken stop h = record {
       plan = h.plan;
       planned = record {
         images_are = h.planned.images_are;
@@ -121,7 +121,7 @@ module _ (o : Outside) (e : Option (List ℕ)) (last : List ℕ) (more : e ≡ g
 
     unwritten_more : (asked : Request) (taken : Taken) → Unwritten asked taken [] o
         → Unwritten asked taken last (with_error o e)
-    unwritten_more (Run q r f w posts from step log names) taken h = record {
+    unwritten_more (Run q r f w s posts from step log names) taken h = record {
       log = h.log;
       seen = h.seen;
       was = record {
@@ -171,7 +171,7 @@ module _ (o : Outside) (e : Option (List ℕ)) (last : List ℕ) (more : e ≡ g
 
     misfit_more : (asked : Request) (taken : Taken) (found : Misfit)
         → HasMisfit asked taken found [] o → HasMisfit asked taken found last (with_error o e)
-    misfit_more (Replay w log names) taken found h = of_log taken.log h
+    misfit_more (Replay w s log names) taken found h = of_log taken.log h
       where
         of_log : (read : Option Log) → OfLog read (λ l. Misfitted l taken.images found [] o)
             → OfLog read (λ l. Misfitted l taken.images found last (with_error o e))

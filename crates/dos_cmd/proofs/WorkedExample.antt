@@ -32,6 +32,7 @@ use Rattle.dos_words.specs.Numbers.{Text}
 use Rattle.dos_words.specs.Request.{request}
 use Rattle.dos_words.specs.declared.request.Request.{Request}
 use Rattle.dos_words.specs.declared.request.Request.TheVariants.{Run, Replay}
+use Rattle.dos_words.specs.declared.request.Scheme.TheVariants.{Ownership}
 use Rattle.dos_cmd.specs.Judging.{Taken, agreed, by_log, digests_of, images_from, judgement}
 use Rattle.dos_cmd.specs.Judging.{taken_images, taken_log}
 use Rattle.dos_cmd.specs.Judging.{of_images, replay_judgement, verdict, with_images, with_room}
@@ -49,7 +50,7 @@ run_words =
     ∷ codes "17" ∷ codes "a" ∷ []
 
 abbrev run_asked : Request
-run_asked = Run 1000 2 17 4 [] None 1 (codes "l") (codes "a" ∷ [])
+run_asked = Run 1000 2 17 4 Ownership [] None 1 (codes "l") (codes "a" ∷ [])
 
 run_asks : request run_words ≡ Some run_asked
 run_asks = refl
@@ -58,7 +59,7 @@ abbrev replay_words : List Text
 replay_words = codes "replay" ∷ codes "--log" ∷ codes "l" ∷ codes "a" ∷ []
 
 abbrev replay_asked : Request
-replay_asked = Replay 4 (codes "l") (codes "a" ∷ [])
+replay_asked = Replay 4 Ownership (codes "l") (codes "a" ∷ [])
 
 replay_asks : request replay_words ≡ Some replay_asked
 replay_asks = refl

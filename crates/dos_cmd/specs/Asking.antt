@@ -33,9 +33,9 @@ named_to_save logs images to =
     record (files_named logs images (to ∷ [])) { may_leave = true }
 
 abbrev pub named_by : Request → Named
-named_by (Run quantum rounds frames workers posts clock_from clock_step log names) =
+named_by (Run quantum rounds frames workers scheme posts clock_from clock_step log names) =
     files_named [] names (log ∷ [])
-named_by (Replay workers log names) = files_named (log ∷ []) names []
+named_by (Replay workers scheme log names) = files_named (log ∷ []) names []
 named_by (Inspect name) = files_named [] (name ∷ []) []
 named_by (Gen number threads workers) = files_named [] [] []
 named_by (Migrate log to) = files_named (log ∷ []) [] (to ∷ [])

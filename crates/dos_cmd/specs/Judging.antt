@@ -185,11 +185,12 @@ gen_config = record { quantum = 1000; rounds = 100000; frames = 4096 }
 -- It is judged by what the files tell under its names; None where that leaves it open. The image
 -- that is generated is never refused.
 abbrev pub judgement : (Text → Option (List ℕ)) → Request → Option Judgement
-judgement contents (Run quantum rounds frames workers posts clock_from clock_step log names) =
+judgement contents
+    (Run quantum rounds frames workers scheme posts clock_from clock_step log names) =
     option_map (λ images. of_images
     (with_room (record { quantum = quantum; rounds = rounds; frames = frames }) images))
     (images_from 1 (map contents names))
-judgement contents (Replay workers log names) =
+judgement contents (Replay workers scheme log names) =
     replay_judgement (contents log) (map contents names)
 judgement contents (Inspect name) = option_map of_images (images_from 1 (contents name ∷ []))
 judgement contents (Gen number threads workers) =

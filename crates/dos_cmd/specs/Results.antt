@@ -63,11 +63,12 @@ OfGroup taken P = OfBoth taken.group taken.log P
 
 -- What is asked for was done with what was taken for it, and ended with this status.
 abbrev pub Did : Request → Taken → ℕ → Outside → Type 0
-Did (Run quantum rounds frames workers posts clock_from clock_step log names) taken status o =
+Did (Run quantum rounds frames workers scheme posts clock_from clock_step log names) taken status
+    o =
     DidRun (run_request_asked quantum rounds frames posts clock_from clock_step log names)
     taken.images
     status o
-Did (Replay workers log names) taken status o =
+Did (Replay workers scheme log names) taken status o =
     OfLog taken.log (λ read. DidReplay read taken.images status o)
 Did (Inspect name) taken status o = Inspected taken.images status o
 Did (Gen number threads workers) taken status o = Generated taken.images status o
@@ -85,8 +86,9 @@ Did (Debug workers log names) taken status o =
 -- A run was stopped so: a recorded one, or the generated group's for want of memory; or a session
 -- of a debugger.
 abbrev pub WasStopped : Request → Taken → ShimStop → (last : List ℕ) → Outside → Type 0
-WasStopped (Run quantum rounds frames workers posts clock_from clock_step log names) taken stop last
-    o = StoppedRun (run_request_asked quantum rounds frames posts clock_from clock_step log names)
+WasStopped (Run quantum rounds frames workers scheme posts clock_from clock_step log names) taken
+    stop last o =
+    StoppedRun (run_request_asked quantum rounds frames posts clock_from clock_step log names)
     taken.images stop last o
 WasStopped (Gen number threads workers) taken stops.Memory last o =
     QuietlyStopped taken.images last o
@@ -98,7 +100,8 @@ WasStopped _ taken stop last o = ⊥
 
 -- A recorded run's log couldn't be written, or a log anew, or a group that was to be saved.
 abbrev pub Unwritten : Request → Taken → (last : List ℕ) → Outside → Type 0
-Unwritten (Run quantum rounds frames workers posts clock_from clock_step log names) taken last o =
+Unwritten (Run quantum rounds frames workers scheme posts clock_from clock_step log names) taken
+    last o =
     UnwrittenRun (run_request_asked quantum rounds frames posts clock_from clock_step log names)
     taken.images last o
 Unwritten (Migrate log to) taken last o = UnwrittenText to last o
@@ -108,7 +111,7 @@ Unwritten _ taken last o = ⊥
 
 -- A replay came to this misfit, traced or not, as far as a round or from one on.
 abbrev pub HasMisfit : Request → Taken → Misfit → (last : List ℕ) → Outside → Type 0
-HasMisfit (Replay workers log names) taken found last o =
+HasMisfit (Replay workers scheme log names) taken found last o =
     OfLog taken.log (λ read. Misfitted read taken.images found last o)
 HasMisfit (Trace workers log names) taken found last o =
     OfLog taken.log (λ read. MisfittedTrace read taken.images found last o)
@@ -120,12 +123,12 @@ HasMisfit _ taken found last o = ⊥
 
 -- An output failed while what is asked for was done.
 abbrev pub Cut : Request → Taken → Outside → Type 0
-Cut (Run quantum rounds frames workers posts clock_from clock_step log names) taken o =
+Cut (Run quantum rounds frames workers scheme posts clock_from clock_step log names) taken o =
     CutRun (run_request_asked quantum rounds frames posts clock_from clock_step log names)
     taken.images o
     ⊎ CutRunReport (run_request_asked quantum rounds frames posts clock_from clock_step log names)
     taken.images o
-Cut (Replay workers log names) taken o =
+Cut (Replay workers scheme log names) taken o =
     OfLog taken.log (λ read. CutReplay read taken.images o ⊎ CutReplayReport read taken.images o)
 Cut (Inspect name) taken o = CutInspect taken.images o
 Cut (Gen number threads workers) taken o = CutSummary taken.images o
@@ -252,7 +255,7 @@ MustResume (Some found) g log status o =
 
 -- With what is taken it is done; but a run's log may be full.
 abbrev pub MustDo : Request → Taken → ℕ → Outside → Type 0
-MustDo (Replay workers log names) taken status o =
+MustDo (Replay workers scheme log names) taken status o =
     OfLog taken.log (λ read. MustReplay
     (misfit taken.images (config_of read.header) (exchanges read)) read taken status o)
 MustDo (Trace workers log names) taken status o =

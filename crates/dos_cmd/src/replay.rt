@@ -12,6 +12,7 @@ ghost use Rattle.log_text.specs.LogText.{logtext};
 ghost use Rattle.log_text.specs.Ranges.{FitsLog};
 ghost use Rattle.dos_texts.specs.Exit.{ending_status};
 ghost use Rattle.dos_words.specs.declared.request.Request.TheVariants as requests;
+ghost use Rattle.dos_words.specs.declared.request.Scheme.{Scheme};
 ghost use Rattle.dos_cmd.specs.Asking.{Asks, files_named, named_by};
 ghost use Rattle.debug_connection.specs.Keeping.{texts_of};
 ghost use Rattle.dos_cmd.specs.Judging.{agreed, contents_of, replay_judgement};
@@ -163,24 +164,25 @@ pub(crate) fn replay<F: Files, O: Sink, E: Sink, W: Workers>(
 ) -> Result<Ending, Refusal>
     requires { length names.now ≤ 8 }
     // whatever a host tells, and however often it failed
-    ensures did { (n : ℕ) (h : HostSeen) → IfOk result (λ ending.
-        Begun (requests.Replay n log.now names.now)
+    ensures did { (n : ℕ) (s : Scheme) (h : HostSeen) → IfOk result (λ ending.
+        Begun (requests.Replay n s log.now names.now)
         (outside (F.tells files.old) (F.content files.old) (F.content files.new) h h
         (O.told out.old) (O.told out.new) (E.told err.old) (E.told err.new)
         (W.tally workers.old) (W.tally workers.new))
-        (λ taken. Did (requests.Replay n log.now names.now) taken (ending_status ending)
+        (λ taken. Did (requests.Replay n s log.now names.now) taken (ending_status ending)
         (outside (F.tells files.old) (F.content files.old) (F.content files.new) h h
         (O.told out.old) (O.told out.new) (E.told err.old) (E.told err.new)
         (W.tally workers.old) (W.tally workers.new)))) }
-    ensures leaves { (n : ℕ) (h : HostSeen) (m : ℕ) → IfErr result (λ why.
-        Leaves (requests.Replay n log.now names.now)
+    ensures leaves { (n : ℕ) (s : Scheme) (h : HostSeen) (m : ℕ) → IfErr result (λ why.
+        Leaves (requests.Replay n s log.now names.now)
         (outside (F.tells files.old) (F.content files.old) (F.content files.new) h h
         (O.told out.old) (O.told out.new) (E.told err.old) (E.told err.new)
         (W.tally workers.old) (W.tally workers.new))
         (faults (F.faults files.old) (F.faults files.new) m m (O.faults out.old) (O.faults out.new)
         (E.faults err.old) (E.faults err.new)) why []) }
-    ensures asked { (n : ℕ) → Asks (named_by (requests.Replay n log.now names.now)) result
-        (F.asked files.old) (F.asked files.new) }
+    ensures asked { (n : ℕ) (s : Scheme)
+        → Asks (named_by (requests.Replay n s log.now names.now)) result (F.asked files.old)
+        (F.asked files.new) }
     ensures files_later { F.faults files.old ≤ F.faults files.new }
     ensures out_later { O.faults out.old ≤ O.faults out.new }
     ensures err_later { E.faults err.old ≤ E.faults err.new }

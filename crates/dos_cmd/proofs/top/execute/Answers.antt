@@ -9,7 +9,7 @@ use Rattle.dos_cmd.proofs.top.execute.Goals as goal
 
 pub run-requires-clause-range : goal.run-requires-clause-range
 run-requires-clause-range g c = λ κs alive.
-    let fits = fits_run _ _ _ _ _ _ _ _ _ _ c.in-Run.is c.requires in
+    let fits = fits_run _ _ _ _ _ _ _ _ _ _ _ c.in-Run.is c.requires in
     record {
       quantum = fits.quantum_fits;
       rounds = fits.rounds_fit;
@@ -18,31 +18,32 @@ run-requires-clause-range g c = λ κs alive.
 
 pub run-requires-clause-some : goal.run-requires-clause-some
 run-requires-clause-some g c = λ κs alive.
-    let fits = fits_run _ _ _ _ _ _ _ _ _ _ c.in-Run.is c.requires in
+    let fits = fits_run _ _ _ _ _ _ _ _ _ _ _ c.in-Run.is c.requires in
     fits.names_fit.0
 
 pub run-requires-clause-few : goal.run-requires-clause-few
 run-requires-clause-few g c = λ κs alive.
-    let fits = fits_run _ _ _ _ _ _ _ _ _ _ c.in-Run.is c.requires in
+    let fits = fits_run _ _ _ _ _ _ _ _ _ _ _ c.in-Run.is c.requires in
     fits.names_fit.1
 
 pub run-requires-clause-few_posts : goal.run-requires-clause-few_posts
 run-requires-clause-few_posts g c = λ κs alive.
-    let fits = fits_run _ _ _ _ _ _ _ _ _ _ c.in-Run.is c.requires in
+    let fits = fits_run _ _ _ _ _ _ _ _ _ _ _ c.in-Run.is c.requires in
     fits.few_posts
 
 pub run-requires-clause-planned : goal.run-requires-clause-planned
 run-requires-clause-planned g c = λ κs alive.
-    let fits = fits_run _ _ _ _ _ _ _ _ _ _ c.in-Run.is c.requires in
+    let fits = fits_run _ _ _ _ _ _ _ _ _ _ _ c.in-Run.is c.requires in
     are_planned _ fits.posts_fit
 
 pub returns-in-Run : goal.returns-in-Run
 returns-in-Run g c =
     let workers = c.in-Run.workers in
+    let scheme = c.in-Run.scheme in
     record {
-      did = did_as _ _ _ _ (c.run.ensures.did workers) c.in-Run.is;
-      leaves = leaves_as _ _ _ _ _ (c.run.ensures.leaves workers) c.in-Run.is;
-      asked = asks_as c.run.result _ _ _ _ c.in-Run.is (c.run.ensures.asked workers);
+      did = did_as _ _ _ _ (c.run.ensures.did workers scheme) c.in-Run.is;
+      leaves = leaves_as _ _ _ _ _ (c.run.ensures.leaves workers scheme) c.in-Run.is;
+      asked = asks_as c.run.result _ _ _ _ c.in-Run.is (c.run.ensures.asked workers scheme);
       files_later = c.run.ensures.files_later;
       host_later = c.run.ensures.host_later;
       host_steady = c.run.ensures.host_steady;
@@ -58,12 +59,14 @@ returns-in-Run g c =
 pub returns-in-Replay : goal.returns-in-Replay
 returns-in-Replay g c =
     let workers = c.in-Replay.workers in
+    let scheme = c.in-Replay.scheme in
     let host = host_seen (g.H.Host.told c.args.host.now) (g.H.Host.asked c.args.host.now) in
     record {
-      did = did_as _ _ _ _ (c.replay.ensures.did workers host) c.in-Replay.is;
-      leaves = leaves_as _ _ _ _ _ (c.replay.ensures.leaves workers host
+      did = did_as _ _ _ _ (c.replay.ensures.did workers scheme host) c.in-Replay.is;
+      leaves = leaves_as _ _ _ _ _ (c.replay.ensures.leaves workers scheme host
           (g.H.Host.faults c.args.host.now)) c.in-Replay.is;
-      asked = asks_as c.replay.result _ _ _ _ c.in-Replay.is (c.replay.ensures.asked workers);
+      asked = asks_as c.replay.result _ _ _ _ c.in-Replay.is
+          (c.replay.ensures.asked workers scheme);
       files_later = c.replay.ensures.files_later;
       host_later = le_refl _;
       host_steady = λ _. refl;
