@@ -191,12 +191,13 @@ fn command<F: Files, H: Host, O: Sink, E: Sink, W: Workers>(
 ///
 /// The words are those behind the program's name: a command, its options, and names of files.
 ///
-/// - `run --log LOG [--quantum N] [--rounds N] [--frames N] [--workers N] [--signals
+/// - `run --log LOG [--quantum N] [--rounds N] [--frames N] [--workers N] [--scheme S] [--signals
 ///   ROUND:PROCESS:SIGNAL,..] [--clock-from N] [--clock-step N] NAME ..` reads 1 to 8 images and
 ///   runs them as one group: signals come from the words, input from `host`, the clock from `host`
 ///   or, where it is counted, from the words. Each answer is recorded; the log is written to the
 ///   file LOG, and then the report is put to `err`.
-/// - `replay --log LOG [--workers N] NAME ..` runs the same images by the answers of a log.
+/// - `replay --log LOG [--workers N] [--scheme S] NAME ..` runs the same images by the answers of a
+///   log.
 /// - `inspect NAME` prints an image's entry and parts to `out`.
 /// - `gen --number N --threads N [--workers N]` runs an image that is made from a number, with
 ///   nothing from outside, and prints how it ended, how many bytes it wrote, and their digest.
