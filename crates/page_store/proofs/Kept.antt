@@ -1,5 +1,5 @@
 -- Frames that stay as many, and marked as before.
-use Rattle.std.proofs.Common.{◌≡◌, ℕ, slice_set, length-set, refl, ◌∙◌}
+use Rattle.std.proofs.Common.{ℕ, slice_set, length-set, refl, ◌∙◌}
 use Rattle.dos_world.specs.declared.Owner.{Owner}
 use Rattle.page_store.specs.Store.{KeepsFrames, Store}
 

@@ -5,3 +5,4 @@ pub mod Copied
 pub mod Marking
 pub mod Frees
 pub mod Kept
+pub mod Forgotten

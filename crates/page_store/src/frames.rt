@@ -13,9 +13,12 @@ ghost use Rattle.page_store.specs.Store.{IsOwned, IsPageCopied, IsUnused, free_c
 ghost use Rattle.page_store.specs.Store.{zeroed, unused_frames, uses_at, with_away, with_owned};
 ghost use Rattle.page_store.specs.Store.{with_grant, with_home, with_less, with_use_more};
 ghost use Rattle.page_store.specs.Lending.{LendsPage, LendsSlot};
+ghost use Rattle.page_store.specs.Compared.{AreRight};
+ghost use Rattle.code_pages.specs.Lines.{bytes_of_pages};
 
 use crate::Page;
 use crate::changes::{Changes, first_changed, note};
+use crate::compared::{Compared, right_again};
 use crate::tally::{free_frames, free_in, high_of};
 use code_pages::CodePages;
 use dos_world::{Access, Owner};
@@ -36,12 +39,18 @@ pub struct Frames {
     high: u32,
     // the pages of code that are known, for the thread that runs in place
     code: Option<Box<CodePages>>,
+    // what was compared with them
+    compared: Option<Box<Compared>>,
+    // whether no page has changed since
+    unchanged: bool,
     // the marked owners, in a run that is traced
     changes: Option<Changes>,
 }
 
 impl Model for Frames {
-    ghost use Rattle.std.specs.Prelude.{◌≤◌, length};
+    ghost use Rattle.std.specs.Prelude.{◌≤◌, ◌≡◌, length, true, IfSome};
+    ghost use Rattle.code_pages.specs.Lines.{bytes_of_pages};
+    ghost use Rattle.page_store.specs.Compared.{AreRight};
     ghost use Rattle.page_store.specs.Marks.{AreNotedIn, marked_in};
     ghost use Rattle.page_store.specs.Store.{AreFreeFrom, AreTallied, Store};
 
@@ -57,12 +66,20 @@ impl Model for Frames {
     ghost invariant = { λ f.
         AreTallied (length f.pages.items) f.owners.items f.uses.items f.free f.free_frames
         × AreFreeFrom f.owners.items f.high × (f.high ≤ length f.pages.items)
-        × AreNotedIn f.owners.items f.changes };
+        × AreNotedIn f.owners.items f.changes
+        × (f.unchanged ≡ true → IfSome f.code (λ code. IfSome f.compared (λ compared.
+        AreRight compared.value.slots compared.value.blocks f.pages.items
+        (bytes_of_pages code.value)))) };
 }
 
 // no page of code is known
 fn no_code(alloc: Global) -> Result<Box<CodePages>, AllocError> {
     Ok(Box::new(alloc, CodePages::reserve(alloc)?)?)
+}
+
+// nothing is compared
+fn none_compared(alloc: Global) -> Result<Box<Compared>, AllocError> {
+    Ok(Box::new(alloc, Compared::nothing())?)
 }
 
 impl Frames {
@@ -78,6 +95,8 @@ impl Frames {
             free_frames: Bitmap::full(alloc, count)?,
             high: 0,
             code: Some(no_code(alloc)?),
+            compared: Some(none_compared(alloc)?),
+            unchanged: false,
             changes: None,
         })
     }
@@ -103,6 +122,8 @@ impl Frames {
             free_frames,
             high,
             code: Some(no_code(alloc)?),
+            compared: Some(none_compared(alloc)?),
+            unchanged: false,
             changes: None,
         })
     }
@@ -172,6 +193,7 @@ impl Frames {
         ensures page { slice_get self.old.pages frame ≡ Some (Some result) }
         ensures away { self.new ≡ with_away self.old frame }
     {
+        self.unchanged = false;
         match self.pages[frame as usize].take() {
             Some(page) => page,
             None => unreachable!(),
@@ -183,6 +205,7 @@ impl Frames {
         requires { IsAway self.old frame }
         ensures { self.new ≡ with_home self.old frame page }
     {
+        self.unchanged = false;
         self.pages[frame as usize] = Some(page);
     }
 
@@ -211,6 +234,7 @@ impl Frames {
         ensures page { slice_get self.old.pages frame ≡ Some (Some result.now) }
         ensures* writes_back { sem 𝓛 (LendsPage self.entry frame result) }
     {
+        self.unchanged = false;
         page_mut(&mut self.pages[frame as usize])
     }
 
@@ -220,10 +244,11 @@ impl Frames {
     }
 
     /// Gives away the pages of code that are known, for a thread that runs in place; None where
-    /// they are away.
+    /// they are away. What was compared with them is forgotten.
     pub fn take_code(&mut self) -> Option<Box<CodePages>>
         ensures { self.new ≡ self.old }
     {
+        self.unchanged = false;
         self.code.take()
     }
 
@@ -231,7 +256,38 @@ impl Frames {
     pub fn keep_code(&mut self, code: Box<CodePages>)
         ensures { self.new ≡ self.old }
     {
+        self.unchanged = false;
         self.code = Some(code);
+    }
+
+    /// Gives away the pages of code that are known, and what was compared with them: nothing where
+    /// a page has changed since they were kept. None where they are away.
+    pub fn take_known(&mut self) -> Option<(Box<CodePages>, Box<Compared>)>
+        ensures same { self.new ≡ self.old }
+        ensures right { IfSome result (λ known.
+            AreRight known.1.value.slots known.1.value.blocks self.new.pages
+            (bytes_of_pages known.0.value)) }
+    {
+        if self.compared.is_none() {
+            return None;
+        }
+        let is_right = self.unchanged;
+        self.unchanged = false;
+        let code = self.code.take()?;
+        let compared = self.compared.take()?;
+        Some((code, right_again(compared, is_right)))
+    }
+
+    /// Keeps the pages of code that are known, and what was compared with them, for as long as no
+    /// page changes.
+    pub fn keep_known(&mut self, code: Box<CodePages>, compared: Box<Compared>)
+        requires { AreRight compared.value.slots compared.value.blocks self.old.pages
+            (bytes_of_pages code.value) }
+        ensures { self.new ≡ self.old }
+    {
+        self.code = Some(code);
+        self.compared = Some(compared);
+        self.unchanged = true;
     }
 
     /// The owner becomes Shared for a fetch or load, and `tid` for a store or claim. Nothing else
@@ -281,6 +337,7 @@ impl Frames {
         match self.fresh(tid) {
             None => None,
             Some(frame) => {
+                self.unchanged = false;
                 copy_page(&mut self.pages, from as usize, frame as usize);
                 Some(frame)
             }
@@ -309,6 +366,7 @@ impl Frames {
             self.uses[place] = 0;
             self.free += 1;
             self.free_frames.set(frame);
+            self.unchanged = false;
             clear_home(&mut self.pages[place]);
         } else {
             self.uses[place] -= 1;

@@ -2,9 +2,11 @@
 #![tactic(auto)]
 
 mod changes;
+mod compared;
 mod frames;
 mod page;
 mod tally;
 
+pub use compared::{Compared, Slot};
 pub use frames::Frames;
 pub use page::Page;

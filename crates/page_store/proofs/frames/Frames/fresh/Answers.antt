@@ -37,6 +37,7 @@ invariant_of-self c =
         c.self.invariant.0.each,
       ),
       c.note.ensures.noted c.self.inside.owners.items c.self.invariant.3,
+      c.self.invariant.4,
     )
 
 pub returns-in-None-clause-found : goal.returns-in-None-clause-found

@@ -18,4 +18,5 @@ invariant_of-self c =
           c.self.invariant.1 owned),
       c.self.invariant.2,
       c.note.ensures.noted c.self.inside.owners.items c.self.invariant.3,
+      c.self.invariant.4,
     )

@@ -15,4 +15,5 @@ invariant_of-result c =
       free-all _ c.args.count c.in_ok-free_owners.ensures,
       omega arith,
       tt,
+      λ same. absurd (cc),
     )

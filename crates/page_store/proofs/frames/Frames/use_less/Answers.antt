@@ -30,6 +30,7 @@ invariant_of-self c =
           c.self.invariant.1,
       subst (λ n. c.self.inside.high ≤ n) (sym count) c.self.invariant.2,
       c.note.ensures.noted c.self.inside.owners.items c.self.invariant.3,
+      λ same. absurd (cc),
     )
 
 pub invariant_of-self-else-index-eq1 : goal.invariant_of-self-else-index-eq1
@@ -48,4 +49,5 @@ invariant_of-self-else-index-eq1 c =
       c.self.invariant.1,
       c.self.invariant.2,
       c.self.invariant.3,
+      c.self.invariant.4,
     )
