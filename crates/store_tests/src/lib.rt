@@ -7,6 +7,8 @@ mod checks;
 #[cfg(test)]
 mod children;
 #[cfg(test)]
+mod compared;
+#[cfg(test)]
 mod copies;
 #[cfg(test)]
 mod memory;

@@ -124,7 +124,7 @@ fn a_freed_frame_is_zero(rt: HostRuntime) {
     drop(frames);
 }
 
-fn two_frames(alloc: Global) -> Result<Frames, AllocError> {
+pub(crate) fn two_frames(alloc: Global) -> Result<Frames, AllocError> {
     Frames::reserve(alloc, 2)
 }
 
@@ -141,7 +141,7 @@ fn written_away(frames: &mut Frames) -> Option<bool> {
     Some(is_home)
 }
 
-fn check_away(rt: &impl Abort, frames: &mut Frames) {
+pub(crate) fn check_away(rt: &impl Abort, frames: &mut Frames) {
     same(rt, written_away(frames), Some(false));
 }
 
