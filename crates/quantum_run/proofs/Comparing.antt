@@ -75,14 +75,14 @@ slot-begins slots address fits found = omega (arith, found, fits)
 
 -- ---- what stays right
 
-pub keeps-same : (shown shown' : List Slot) (compared compared' : List Bool)
-    (pages pages' : List (Option (List ℕ)))
-    → shown' ≡ shown → compared' ≡ compared → pages' ≡ pages
-    → KeepsRight shown compared pages shown' compared' pages'
-keeps-same shown shown' compared compared' pages pages' s c p known are =
-    subst (λ (x : List Slot). AreRight x compared' pages' known) (sym s)
-    (subst (λ (x : List Bool). AreRight shown x pages' known) (sym c)
-    (subst (λ (x : List (Option (List ℕ))). AreRight shown compared x known) (sym p) are))
+pub keeps-same : {P : Type 0} (pages : P → List (Option (List ℕ))) (shown shown' : List Slot)
+    (compared compared' : List Bool) (p p' : P)
+    → shown' ≡ shown → compared' ≡ compared → p' ≡ p
+    → KeepsRight shown compared (pages p) shown' compared' (pages p')
+keeps-same {P} pages shown shown' compared compared' p p' s c same known are =
+    subst (λ (x : List Slot). AreRight x compared' (pages p') known) (sym s)
+    (subst (λ (x : List Bool). AreRight shown x (pages p') known) (sym c)
+    (subst (λ (x : P). AreRight shown compared (pages x) known) (sym same) are))
 
 -- what is right at an address is right by each list with the same slot
 right-there : (shown new : List Slot) (pages known : List (Option (List ℕ))) (address : ℕ)

@@ -6,7 +6,7 @@ pub mod RunSteps
 pub mod Flying
 pub mod Walking
 pub mod Stopping
-pub mod Witness
+pub mod FlatRuns
 pub mod Whole
 pub mod Parts
 pub mod Overlay

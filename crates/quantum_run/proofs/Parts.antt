@@ -14,10 +14,16 @@ use Rattle.flat_machine.proofs.Threads.{of_kept}
 use Rattle.flat_machine.specs.Alone.{steps, emptied, budget_of}
 use Rattle.quantum_run.specs.Laws.{RunsAreParts}
 use Rattle.quantum_run.specs.Shows.{thread_space}
-use Rattle.quantum_run.specs.ThreadRuns.{IsRunOf, Stops, run_to}
+use Rattle.quantum_run.specs.ThreadRuns.{IsRunOf, run_to}
 use Rattle.flat_machine.specs.Laws.{after_steps}
 use Rattle.flat_machine.proofs.After.{same-after, steps-ok, steps-stopped}
 use Rattle.flat_machine.proofs.Threads.{seen-changed, ran-twice}
+
+-- what the end of a run says of the world that it ends in: the budget has come down to the floor,
+-- or the next instruction stops
+abbrev pub Stops : ℕ → World → ℕ → ℕ → Option Reason → Type 0
+Stops floor w t left None = left ≡ floor
+Stops floor w t left (Some reason) = step w t ≡ Err reason
 
 space-by : (w : World) (o : Option Thread)
     → (elim o as (λ _. List (ℕ × Entry)) [ None ↦ [] | Some thread ↦ space_of w thread.process ])

@@ -1,7 +1,7 @@
 -- The frames that accesses find, and their pages.
 use Rattle.std.specs.Prelude.{slice_index_or}
 use Rattle.std.proofs.lemmas.List.Elements.{All-same, All-set, All-replicate}
-use Rattle.std.proofs.Common.{rules, replicate, ℕ, zero, suc, ◌+◌, ◌/◌, ◌%◌, ◌^◌, ◌≡◌, ◌<◌}
+use Rattle.std.proofs.Common.{rules, replicate, ℕ, zero, suc, ◌+◌, ◌*◌, ◌/◌, ◌%◌, ◌^◌, ◌≡◌, ◌<◌}
 use Rattle.std.proofs.Common.{◌≤◌}
 use Rattle.std.proofs.Common.{refl, sym, ap, ◌∙◌, subst, cond, not, Bool, true, false, List, []}
 use Rattle.std.proofs.Common.{◌∷◌}
@@ -24,9 +24,9 @@ use Rattle.page_store.proofs.Joined.{joined-number, joined-written}
 use Rattle.quantum_run.specs.ThreadRuns.{AreMapped}
 use Rattle.quantum_run.specs.declared.slot.Slot.{Slot}
 use Rattle.quantum_run.specs.Finding.{AreFramesOf, IsFrameOf, IsWriting, frame_by, frame_for}
-use Rattle.quantum_run.specs.Finding.{flat_place, frame_for_size, no_start, page_start}
+use Rattle.quantum_run.specs.Finding.{frame_for_size, no_start, page_start}
 use Rattle.quantum_run.specs.Knowing.{empty_slot}
-use Rattle.quantum_run.specs.Pages.{is_here}
+use Rattle.quantum_run.specs.Pages.{Writes, is_here}
 
 -- ---- frames
 
@@ -242,28 +242,41 @@ aligned-within address size h =
       | Word ↦ λ q. omega arith
     ] h
 
+-- and at an aligned offset of it
+pub aligned-offset : (address : ℕ) (size : Size) → address % width size ≡ 0
+    → address % 4096 % width size ≡ 0
+aligned-offset address size h =
+    elim size as (λ (x : Size). address % width x ≡ 0 → address % 4096 % width x ≡ 0) [
+      | Byte ↦ λ q. omega arith
+      | Half ↦ λ q. omega arith
+      | Word ↦ λ q. omega arith
+    ] h
+
 -- a number read from a page is the one in the flat bytes
-pub read-joined : (pages : List (Option (List ℕ))) (frame address : ℕ) (size : Size) (page : List ℕ)
-    (n : ℕ) → slice_get pages frame ≡ Some (Some page) → address % 4096 + width size ≤ 4096
-    → n ≡ number_at (whole page) (address % 4096) size
-    → n ≡ number_at (joined pages) (flat_place frame address) size
-read-joined pages frame address size page n home within is =
-    is ∙ sym (joined-number pages frame (address % 4096) (width size) (flat_place frame address)
-    (Some page) home within refl)
+pub read-there : (pages : List (Option (List ℕ))) (frame offset : ℕ) (size : Size) (page : List ℕ)
+    (n : ℕ) → slice_get pages frame ≡ Some (Some page) → offset + width size ≤ 4096
+    → n ≡ number_at (whole page) offset size
+    → n ≡ number_at (joined pages) (4096 * frame + offset) size
+read-there pages frame offset size page n home within is =
+    is ∙ sym (joined-number pages frame offset (width size) (4096 * frame + offset) (Some page) home
+    within refl)
 
 pub length-bytes : (k n : ℕ) → length (bytes_of k n) ≡ k
 length-bytes zero n = refl
 length-bytes (suc k) n = ap suc (length-bytes k (n / 256))
 
 -- a number written in a page is written in the flat bytes
-pub written-joined : (pages : List (Option (List ℕ))) (frame address : ℕ) (size : Size)
-    (old new : List ℕ) (value : ℕ) → slice_get pages frame ≡ Some (Some old)
-    → address % width size ≡ 0
-    → whole new ≡ written (whole old) (address % 4096) (bytes_of (width size) value)
-    → joined (set pages frame (Some new)) ≡ written (joined pages) (flat_place frame address)
-    (bytes_of (width size) value)
-written-joined pages frame address size old new value home aligned is =
-    joined-written pages frame (address % 4096) (flat_place frame address) old new
-    (bytes_of (width size) value) home is
-    (omega (arith, length-bytes (width size) value, aligned-within address size aligned))
-    refl
+pub writes-joined : (pages new : List (Option (List ℕ))) (frame offset : ℕ) (size : Size)
+    (value : ℕ) → offset + width size ≤ 4096
+    → Writes pages new frame offset (bytes_of (width size) value)
+    → joined new ≡ written (joined pages) (4096 * frame + offset) (bytes_of (width size) value)
+writes-joined pages new frame offset size value within w =
+    ap joined w.pages
+    ∙ joined-written pages frame offset (4096 * frame + offset) w.before w.after
+    (bytes_of (width size) value) w.was w.is
+    (omega (arith, length-bytes (width size) value, within)) refl
+
+-- what holds where it was written and where it wasn't
+pub either-way : {A : Type 0} (done : Bool) → (done ≡ true → A) → (done ≡ false → A) → A
+either-way true did didnt = did refl
+either-way false did didnt = didnt refl

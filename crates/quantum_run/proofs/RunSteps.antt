@@ -1,15 +1,13 @@
--- A run on a memory, by one instruction more.
-use Rattle.std.proofs.Common.{ℕ, suc, ◌+◌, ◌-◌, ◌<◌, ◌≤◌, ◌≡◌, refl, sym, ap, ◌∙◌, Option, Some}
-use Rattle.std.proofs.Common.{None}
+-- Instructions one after another over any answers, by one more.
+use Rattle.std.proofs.Common.{ℕ, zero, suc, ◌+◌, ◌≡◌, refl, sym, ap, ◌∙◌, Option, Some, None}
 use Rattle.std.proofs.Common.{Result, Ok, Err, arith}
-use Rattle.dos_world.specs.World.{World, Registers}
+use Rattle.dos_world.specs.World.{Registers}
 use Rattle.dos_world.specs.declared.Reason.{Reason}
+use Rattle.flat_machine.specs.Over.{MemoryAnswers, one_in}
+use Rattle.rv_exec.specs.Follows.{Follows}
+use Rattle.rv_exec.specs.Runs.{GoesTo, after_in}
 use Rattle.rv_exec.specs.declared.Went.TheVariants.{Step, Stop}
-use Rattle.flat_machine.specs.Step.{step}
-use Rattle.rv_exec.specs.Runs.{Runs, Steps}
 use Rattle.quantum_run.specs.ThreadRuns.{Reaches, Goes}
-use Rattle.flat_machine.specs.Laws.{after_steps}
-use Rattle.flat_machine.proofs.After.{after-more, same-after}
 
 Step≢Stop : (reason : Reason) → Step ≡ Stop reason → ⊥
 Step≢Stop reason q = cc
@@ -17,97 +15,119 @@ Step≢Stop reason q = cc
 Stop-is : (a b : Reason) → Stop a ≡ Stop b → a ≡ b
 Stop-is a b q = cc
 
-pub reaches-more : (before after : World → Type 0) (w : World) (t : ℕ) (r r' : Registers)
-    (budget left : ℕ) → 0 < left → left ≤ budget
-    → ((u : World) → Runs before u t r left → Steps after u t r' left Step (step u t))
-    → Reaches before w t r budget left → Reaches after w t r' budget (left - 1)
-reaches-more before after w t r r' budget left some within one reached =
-    by_step (step reached.now t) refl (one reached.now reached.runs)
-  where
-    by_step : (o : Result World Reason) → step reached.now t ≡ o
-        → Steps after reached.now t r' left Step o → Reaches after w t r' budget (left - 1)
-    by_step (Err reason) is q = absurd (Step≢Stop reason q.0)
-    by_step (Ok next) is q =
-        let count : budget - (left - 1) ≡ suc (budget - left) = omega (arith, some, within) in
-        record {
-          now = next;
-          ran = ap (λ n. after_steps n w t) count
-              ∙ after-more (budget - left) w reached.now next t reached.ran is;
-          runs = q.1;
-        }
+module _ {M : Type 0} (answers : MemoryAnswers M) where
+  pub Some-both : {a b : Registers × M} → ◌≡◌ {A = Option (Registers × M)} (Some a) (Some b) → a ≡ b
+  Some-both h = cc
 
-pub goes-stopped : (floor : ℕ) (before after : World → Type 0) (w : World) (t : ℕ)
-    (r r' : Registers) (budget left : ℕ) (reason : Reason)
-    → ((u : World) → Runs before u t r left → Steps after u t r' left (Stop reason) (step u t))
-    → Reaches before w t r budget left → Goes floor after w t r' budget left (Some reason)
-goes-stopped floor before after w t r r' budget left reason one reached =
-    by_step (step reached.now t) refl (one reached.now reached.runs)
-  where
-    by_step : (o : Result World Reason) → step reached.now t ≡ o
-        → Steps after reached.now t r' left (Stop reason) o
-        → Goes floor after w t r' budget left (Some reason)
-    by_step (Ok next) is q = absurd (Step≢Stop reason (sym q.0))
-    by_step (Err cause) is q = record {
-      reaches = record { now = reached.now; ran = reached.ran; runs = q.1 };
-      stops = is ∙ ap Err (Stop-is cause reason (sym q.0));
-    }
+  -- the first is done, and then the others
+  abbrev rest : ℕ → Result (Registers × M) Reason → Option (Registers × M)
+  rest n o = elim o as (λ _. Option (Registers × M)) [
+    | Ok next ↦ after_in answers n next.0 next.1
+    | Err reason ↦ None
+  ]
 
--- what shows less shows the same run
-pub reaches-shown : (before after : World → Type 0) (w : World) (t : ℕ) (r : Registers)
-    (budget left : ℕ) → ((u : World) → before u → after u)
-    → Reaches before w t r budget left → Reaches after w t r budget left
-reaches-shown before after w t r budget left shows reached = record {
-  now = reached.now;
-  ran = reached.ran;
-  runs = record {
-    shown = shows reached.now reached.runs.shown;
-    thread = reached.runs.thread;
-  };
-}
+  -- so many, and so many more
+  pub goes-then : (n k : ℕ) (r : Registers) (m : M) (after : Registers) (u : M)
+      → GoesTo answers n r m after u → after_in answers (n + k) r m ≡ after_in answers k after u
+  goes-then zero k r m after u h =
+      let none : 0 + k ≡ k = omega arith in
+      ap (λ i. after_in answers i r m) none
+      ∙ ap (λ (x : Registers × M). after_in answers k x.0 x.1) (Some-both h)
+  goes-then (suc n) k r m after u h =
+      let count : suc n + k ≡ suc (n + k) = omega arith in
+      ap (λ i. after_in answers i r m) count
+      ∙ by_one (λ next q. goes-then n k next.0 next.1 after u q) (one_in answers r m) h
+    where
+      by_one : ((next : Registers × M) → GoesTo answers n next.0 next.1 after u
+          → after_in answers (n + k) next.0 next.1 ≡ after_in answers k after u)
+          → (o : Result (Registers × M) Reason) → rest n o ≡ Some (after, u)
+          → rest (n + k) o ≡ after_in answers k after u
+      by_one later (Ok next) q = later next q
+      by_one later (Err reason) q = cc
 
-pub goes-shown : (floor : ℕ) (before after : World → Type 0) (w : World) (t : ℕ) (r : Registers)
-    (budget left : ℕ) (stop : Option Reason) → ((u : World) → before u → after u)
-    → Goes floor before w t r budget left stop → Goes floor after w t r budget left stop
-unfolding reaches-shown
-goes-shown floor before after w t r budget left stop shows goes = record {
-  reaches = reaches-shown before after w t r budget left shows goes.reaches;
-  stops = goes.stops;
-}
+  -- one that is done
+  reaches-one : (shows : M → Type 0) (r r' : Registers) (u : M)
+      → Follows shows u r r' Step (one_in answers r u) → Reaches answers shows r u r' 1
+  reaches-one shows r r' u = λ f. by_one (one_in answers r u) refl f
+    where
+      by_one : (o : Result (Registers × M) Reason) → one_in answers r u ≡ o
+          → Follows shows u r r' Step o → Reaches answers shows r u r' 1
+      by_one (Err reason) is f = absurd (Step≢Stop reason f.went_is)
+      by_one (Ok next) is f = record {
+        now = next.1;
+        shown = f.memory;
+        ran = ap (rest 0) is ∙ ap (λ (x : Registers). Some (x, next.1)) (sym f.registers);
+      }
 
-one-first : (k : ℕ) (u next : World) (t : ℕ) → step u t ≡ Ok next
-    → after_steps (suc k) u t ≡ after_steps k next t
-one-first k u next t is = ap (λ (r : Result World Reason). elim r as (λ _. Option World) [
-  | Ok v ↦ after_steps k v t
-  | Err reason ↦ None
-]) is
+module _ {M : Type 0} (answers : MemoryAnswers M) (r0 : Registers) (m : M) where
+  -- none made yet
+  pub reaches-none : (shows : M → Type 0) (count : ℕ) → count ≡ 0 → shows m
+      → Reaches answers shows r0 m r0 count
+  reaches-none shows count none s = record {
+    now = m;
+    shown = s;
+    ran = ap (λ n. after_in answers n r0 m) none;
+  }
 
--- so many steps, and so many more
-pub ran-then : (n m : ℕ) (w v : World) (t : ℕ) → after_steps n w t ≡ Some v
-    → after_steps (n + m) w t ≡ after_steps m v t
-ran-then n m w v t is =
-    same-after t (λ k u. after_steps k u t) (λ k u next one. one-first k u next t one) n m w v is
+  -- a run goes on from where another led
+  pub reaches-then : (before after : M → Type 0) (r r' : Registers) (n k all : ℕ) → all ≡ n + k
+      → ((u : M) → before u → Reaches answers after r u r' k)
+      → Reaches answers before r0 m r n → Reaches answers after r0 m r' all
+  reaches-then before after r r' n k all count goes reached =
+      let more = goes reached.now reached.shown in
+      record {
+        now = more.now;
+        shown = more.shown;
+        ran = ap (λ i. after_in answers i r0 m) count
+            ∙ goes-then answers n k r0 m r reached.now reached.ran ∙ more.ran;
+      }
 
--- a run goes on from where another led
-pub reaches-then : (before after : World → Type 0) (w : World) (t : ℕ) (r r' : Registers)
-    (budget middle left : ℕ) → left ≤ middle → middle ≤ budget
-    → ((u : World) → Runs before u t r middle → Reaches after u t r' middle left)
-    → Reaches before w t r budget middle → Reaches after w t r' budget left
-reaches-then before after w t r r' budget middle left less within goes reached =
-    let more = goes reached.now reached.runs in
-    let count : budget - left ≡ (budget - middle) + (middle - left) = omega (arith, less, within) in
-    record {
-      now = more.now;
-      ran = ap (λ n. after_steps n w t) count
-          ∙ ran-then (budget - middle) (middle - left) w reached.now t reached.ran
-          ∙ more.ran;
-      runs = more.runs;
-    }
+  pub reaches-more : (before after : M → Type 0) (r r' : Registers) (n all : ℕ) → all ≡ n + 1
+      → ((u : M) → before u → Follows after u r r' Step (one_in answers r u))
+      → Reaches answers before r0 m r n → Reaches answers after r0 m r' all
+  reaches-more before after r r' n all count one reached =
+      reaches-then before after r r' n 1 all count (λ u s. reaches-one answers after r r' u (one u
+      s))
+      reached
 
--- none made yet
-pub reaches-none : (shows : World → Type 0) (w : World) (t : ℕ) (r : Registers) (budget : ℕ)
-    → Runs shows w t r budget → Reaches shows w t r budget budget
-reaches-none shows w t r budget runs = record {
-  now = w;
-  ran = let none : budget - budget ≡ 0 = omega arith in ap (λ n. after_steps n w t) none;
-  runs = runs;
-}
+  pub goes-stopped : (before after : M → Type 0) (r r' : Registers) (made : ℕ) (reason : Reason)
+      → ((u : M) → before u → Follows after u r r' (Stop reason) (one_in answers r u))
+      → Reaches answers before r0 m r made → Goes answers after r0 m r' made (Some reason)
+  goes-stopped before after r r' made reason one reached =
+      by_one (one_in answers r reached.now) refl (one reached.now reached.shown)
+    where
+      by_one : (o : Result (Registers × M) Reason) → one_in answers r reached.now ≡ o
+          → Follows after reached.now r r' (Stop reason) o
+          → Goes answers after r0 m r' made (Some reason)
+      by_one (Ok next) is f = absurd (Step≢Stop reason (sym f.went_is))
+      by_one (Err cause) is f = record {
+        reaches = record {
+          now = reached.now;
+          shown = f.memory;
+          ran = reached.ran ∙ ap (λ (x : Registers). Some (x, reached.now)) (sym f.registers);
+        };
+        stops = ap (λ (x : Registers). one_in answers x reached.now) f.registers ∙ is
+            ∙ ap Err (Stop-is cause reason (sym f.went_is));
+      }
+
+  -- what shows less shows the same run
+  pub reaches-shown : (before after : M → Type 0) (r : Registers) (made : ℕ)
+      → ((u : M) → before u → after u)
+      → Reaches answers before r0 m r made → Reaches answers after r0 m r made
+  reaches-shown before after r made shows reached = record {
+    now = reached.now;
+    shown = shows reached.now reached.shown;
+    ran = reached.ran;
+  }
+
+  pub goes-shown : (before after : M → Type 0) (r : Registers) (made : ℕ)
+      (stop : Option Reason) → ((u : M) → before u → after u)
+      → Goes answers before r0 m r made stop → Goes answers after r0 m r made stop
+  goes-shown before after r made stop shows goes = record {
+    reaches = record {
+      now = goes.reaches.now;
+      shown = shows goes.reaches.now goes.reaches.shown;
+      ran = goes.reaches.ran;
+    };
+    stops = goes.stops;
+  }

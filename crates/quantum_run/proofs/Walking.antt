@@ -1,18 +1,17 @@
 -- From a line to the one behind it.
-use Rattle.std.proofs.Common.{ℕ, suc, zero, ◌+◌, ◌-◌, ◌*◌, ◌/◌, ◌%◌, ◌^◌, ◌<◌, ◌≤◌, ◌≡◌, ◌≢◌, ◌⊎◌}
+use Rattle.std.proofs.Common.{ℕ, suc, zero, ◌+◌, ◌*◌, ◌/◌, ◌%◌, ◌^◌, ◌<◌, ◌≡◌, ◌≢◌, ◌⊎◌}
 use Rattle.std.proofs.Common.{inl, inr}
 use Rattle.std.proofs.Common.{refl, sym, ap, ◌∙◌, subst, arith, Bool, true, false, List, [], ◌∷◌}
 use Rattle.std.proofs.Common.{Option, Some}
 use Rattle.std.proofs.Common.{Ok, get_or, length, cond, eqb}
 use Rattle.std.specs.Prelude.{slice_get, slice_index_or}
-use Rattle.dos_world.specs.World.{World, Thread, Registers, with_pc, with_thread}
+use Rattle.dos_world.specs.World.{Registers, with_pc}
 use Rattle.dos_world.specs.declared.Access.TheVariants.{Fetch}
-use Rattle.rv_form.specs.declared.form.Form.{Form}
 use Rattle.rv_form.specs.Forms.{IsFormOf}
 use Rattle.flat_machine.specs.Effect.{Effect}
-use Rattle.flat_machine.specs.Over.{effect_in, world_answers}
-use Rattle.rv_exec.specs.Follows.{Follows}
-use Rattle.rv_exec.specs.Runs.{word_at}
+use Rattle.flat_machine.specs.Over.{MemoryAnswers, effect_in}
+use Rattle.page_store.specs.Store.{joined}
+use Rattle.rv_exec.specs.Follows.{Follows, word_in}
 use Rattle.rv_exec.specs.Instruction.{effect_of_form}
 use Rattle.rv_exec.specs.Arrivals.{arrived_by}
 use Rattle.rv_exec.specs.declared.Went.TheVariants.{Step}
@@ -30,9 +29,10 @@ use Rattle.quantum_run.specs.Finding.{AreFramesOf, page_start}
 use Rattle.quantum_run.specs.Flying.{DoneOrNot, IsLineOf}
 use Rattle.quantum_run.specs.Knowing.{IsLineFor, block_place, code_place, empty_slot}
 use Rattle.quantum_run.specs.Knowing.{slot_of}
-use Rattle.quantum_run.specs.Showing.{ShowsKnown, Still, blind_known}
+use Rattle.quantum_run.specs.Answering.{Places, Still, run_answers}
+use Rattle.quantum_run.specs.Showing.{ShowsKnown, answers_of}
 use Rattle.quantum_run.specs.ThreadRuns.{Reaches}
-use Rattle.quantum_run.proofs.Flying.{steps-by-form}
+use Rattle.quantum_run.proofs.Flying.{one-by-form}
 use Rattle.quantum_run.proofs.RunSteps.{reaches-more, reaches-shown}
 use Rattle.quantum_run.proofs.Words.{line-word}
 
@@ -195,19 +195,21 @@ goes-behind shown compared known lines base address zero line next some of is go
 goes-behind shown compared known lines base address (suc n) line next some of is goes there =
     behind shown compared known lines base address n line next of is goes there
 
--- the code of a line that isn't stale is the one that t fetches
-pub fetched : {F : Type 0} (now : Still) (fixed : F) (pages : List (Option (List ℕ)))
-    (shown : List Slot) (compared : List Bool) (known : Known) (lines : List Line)
-    (base address n : ℕ) (line : Line) (f : Still × F) (t : ℕ) (w : World)
+-- the code of a line that isn't stale is the one that is fetched
+pub fetched : {F M : Type 0} (places : F → Places M) (now : Still) (fixed : F) (state : M)
+    (pages : List (Option (List ℕ))) (shown : List Slot) (compared : List Bool) (known : Known)
+    (lines : List Line) (base address n : ℕ) (line : Line) (f : Still × F) (m : M)
+    → (places fixed).bytes state ≡ joined pages
     → AreFramesOf now.thread now.owners now.entries Fetch shown
     → IsLineOf shown compared known lines base address (suc n)
     → slice_get lines (suc n) ≡ Some line → 0 < line.size
-    → ShowsKnown now fixed pages shown compared (f, bytes_of_pages known) t w
-    → (code : ℕ) × IsFormOf code line.form × (word_at w t address ≡ Ok code)
-fetched now fixed pages shown compared known lines base address n line f t w frames of is live
-    shows =
-    let here = line-word now fixed pages shown compared f known t w address (suc n) line shows
-    frames of.pages of.line (omega arith) of.even of.small
+    → ShowsKnown now fixed state pages shown compared (f, bytes_of_pages known) m
+    → (code : ℕ) × IsFormOf code line.form
+    × (word_in (run_answers f.0 (places f.1)) m address ≡ Ok code)
+fetched places now fixed state pages shown compared known lines base address n line f m bytes_are
+    frames of is live shows =
+    let here = line-word places now fixed state pages shown compared f known m address (suc n) line
+    shows bytes_are frames of.pages of.line (omega arith) of.even of.small
     (ap (λ (xs : List Line). slice_get xs (suc n)) of.lines_are ∙ is) live in
     (here.is.code, here.is.form, here.word)
 
@@ -292,39 +294,24 @@ placed shown compared known lines base address (suc n) some of =
           here.is,
     )
 
-pub fetched-at : {F : Type 0} (now : Still) (fixed : F) (pages : List (Option (List ℕ)))
-    (shown : List Slot) (compared : List Bool) (known : Known) (lines : List Line)
-    (base address at : ℕ) (line : Line) (f : Still × F) (t : ℕ) (w : World) → 0 < at
+pub fetched-at : {F M : Type 0} (places : F → Places M) (now : Still) (fixed : F) (state : M)
+    (pages : List (Option (List ℕ))) (shown : List Slot) (compared : List Bool) (known : Known)
+    (lines : List Line) (base address at : ℕ) (line : Line) (f : Still × F) (m : M) → 0 < at
+    → (places fixed).bytes state ≡ joined pages
     → AreFramesOf now.thread now.owners now.entries Fetch shown
     → IsLineOf shown compared known lines base address at
     → slice_get lines at ≡ Some line → 0 < line.size
-    → ShowsKnown now fixed pages shown compared (f, bytes_of_pages known) t w
-    → (code : ℕ) × IsFormOf code line.form × (word_at w t address ≡ Ok code)
-fetched-at now fixed pages shown compared known lines base address zero line f t w some frames of is
-    live shows = absurd (omega (arith, some))
-fetched-at now fixed pages shown compared known lines base address (suc n) line f t w some frames of
-    is live shows =
-    fetched now fixed pages shown compared known lines base address n line f t w frames of is live
-    shows
-
--- ---- a run by one line more
-
-pub walked : (before after : World → Type 0) (t : ℕ)
-    → ((w : World) (change : Thread → Thread)
-    → ((thread : Thread) → (change thread).process ≡ thread.process) → after w
-    → after (with_thread w t change))
-    → (pc : ℕ) (r left : Registers) (form : Form) (w : World) (budget more : ℕ)
-    → 0 < more → more ≤ budget
-    → ((u : World) → before u
-    → (code : ℕ) × IsFormOf code form × (word_at u t pc ≡ Ok code))
-    → ((u : World) → before u → Follows after u (with_pc r pc) left Step
-    (effect_in (world_answers t) u (effect_of_form form (with_pc r pc))))
-    → Reaches before w t (with_pc r pc) budget more → Reaches after w t left budget (more - 1)
-walked before after t blind pc r left form w budget more some within fetches does reached =
-    reaches-more before after w t (with_pc r pc) left budget more some within
-    (λ u runs. let found = fetches u runs.shown in
-    steps-by-form before after t blind pc r left form u more found.0 found.1 found.2 (does u) runs)
-    reached
+    → ShowsKnown now fixed state pages shown compared (f, bytes_of_pages known) m
+    → (code : ℕ) × IsFormOf code line.form
+    × (word_in (run_answers f.0 (places f.1)) m address ≡ Ok code)
+fetched-at places now fixed state pages shown compared known lines base address zero line f m some
+    bytes_are frames of is live shows = absurd (omega (arith, some))
+fetched-at places now fixed state pages shown compared known lines base address (suc n) line f m
+    some
+    bytes_are frames of is live shows =
+    fetched places now fixed state pages shown compared known lines base address n line f m
+    bytes_are
+    frames of is live shows
 
 -- the line at a place is the one that is got there
 pub got-line : (xs : List Line) (i : ℕ) (line other : Line) → slice_get xs i ≡ Some line
@@ -346,35 +333,41 @@ pub To≢Not : (target : ℕ) → To target ≡ Not → ⊥
 To≢Not target q = cc
 
 -- a run by the instruction of a line, which is done
-pub line-done : {F : Type 0} (now left : Still) (fixed after : F)
-    (pages left_pages : List (Option (List ℕ))) (shown left_shown first_shown : List Slot)
-    (compared left_compared first_compared : List Bool) (known : Known) (lines : List Line)
-    (base pc at : ℕ) (line : Line) (r r' : Registers) (next : Next) (budget more : ℕ)
+pub line-done : {F M : Type 0} (places : F → Places M) (now left : Still) (fixed after : F)
+    (state left_state : M) (pages left_pages : List (Option (List ℕ)))
+    (shown left_shown first_shown : List Slot) (compared left_compared first_compared : List Bool)
+    (known : Known) (lines : List Line) (base pc at : ℕ) (line : Line) (r r' : Registers)
+    (next : Next) (made all : ℕ) → (places fixed).bytes state ≡ joined pages
     → AreFramesOf now.thread now.owners now.entries Fetch shown
-    → DoneOrNot (ShowsKnown now fixed pages shown compared)
-    (ShowsKnown left after left_pages left_shown left_compared) line.size pc r r' next
+    → DoneOrNot (answers_of places) (ShowsKnown now fixed state pages shown compared)
+    (ShowsKnown left after left_state left_pages left_shown left_compared) line.size pc r r' next
     (effect_of_form line.form)
     → next ≢ Not → 0 < at → slice_get lines at ≡ Some line → 0 < line.size → shown ≡ first_shown
-    → compared ≡ first_compared → 0 < more → more ≤ budget
-    → (f : Still × F) (t : ℕ) (w : World)
+    → compared ≡ first_compared → all ≡ made + 1 → (f : Still × F) (r0 : Registers) (m : M)
     → IsLineOf first_shown first_compared known lines base pc at
-    → Reaches (ShowsKnown now fixed pages shown compared (f, bytes_of_pages known) t) w t
-    (with_pc r pc) budget more
-    → Reaches (ShowsKnown left after left_pages left_shown left_compared
-    (f, bytes_of_pages known) t) w t (arrived_by line.size r' pc next) budget (more - 1)
-line-done now left fixed after pages left_pages shown left_shown first_shown compared left_compared
-    first_compared known lines base pc zero line r r' next budget more frames done other some is
-    live same_shown same_compared left_some within f t w of reached = absurd (omega (arith, some))
-line-done {F} now left fixed after pages left_pages shown left_shown first_shown compared
-    left_compared first_compared known lines base pc (suc n) line r r' next budget more frames done
-    other some is live same_shown same_compared left_some within f t w of reached =
+    → Reaches (run_answers f.0 (places f.1)) (ShowsKnown now fixed state pages shown compared
+    (f, bytes_of_pages known)) r0 m (with_pc r pc) made
+    → Reaches (run_answers f.0 (places f.1)) (ShowsKnown left after left_state left_pages left_shown
+    left_compared (f, bytes_of_pages known)) r0 m (arrived_by line.size r' pc next) all
+line-done places now left fixed after state left_state pages left_pages shown left_shown first_shown
+    compared left_compared first_compared known lines base pc zero line r r' next made all bytes_are
+    frames done other some is live same_shown same_compared count f r0 m of reached =
+    absurd (omega (arith, some))
+line-done {F} {M} places now left fixed after state left_state pages left_pages shown left_shown
+    first_shown compared left_compared first_compared known lines base pc (suc n) line r r' next
+    made
+    all bytes_are frames done other some is live same_shown same_compared count f r0 m of reached =
     by_next next other done
   where
-    before : World → Type 0
-    before = ShowsKnown now fixed pages shown compared (f, bytes_of_pages known) t
+    answers : MemoryAnswers M
+    answers = run_answers f.0 (places f.1)
 
-    then : World → Type 0
-    then = ShowsKnown left after left_pages left_shown left_compared (f, bytes_of_pages known) t
+    before : M → Type 0
+    before = ShowsKnown now fixed state pages shown compared (f, bytes_of_pages known)
+
+    then : M → Type 0
+    then = ShowsKnown left after left_state left_pages left_shown left_compared
+        (f, bytes_of_pages known)
 
     here : IsLineOf shown compared known lines base pc (suc n)
     here = subst (λ (xs : List Slot). IsLineOf xs compared known lines base pc (suc n))
@@ -382,38 +375,37 @@ line-done {F} now left fixed after pages left_pages shown left_shown first_shown
         (subst (λ (xs : List Bool). IsLineOf first_shown xs known lines base pc (suc n))
         (sym same_compared) of)
 
-    go : (to : Registers) → ((u : World) → before u → Follows then u (with_pc r pc) to Step
-        (effect_in (world_answers t) u (effect_of_form line.form (with_pc r pc))))
-        → Reaches then w t to budget (more - 1)
-    go to does = walked before then t
-        (blind_known left after left_pages left_shown left_compared (f, bytes_of_pages known) t)
-        pc r to line.form w budget more left_some within
-        (λ u shows. fetched now fixed pages shown compared known lines base pc n line f t u frames
-        here is live shows)
-        does reached
+    go : (to : Registers) → ((u : M) → before u → Follows then u (with_pc r pc) to Step
+        (effect_in answers u (effect_of_form line.form (with_pc r pc))))
+        → Reaches answers then r0 m to all
+    go to does = reaches-more answers r0 m before then (with_pc r pc) to made all count
+        (λ u shows. let found = fetched places now fixed state pages shown compared known lines base
+        pc n line f u bytes_are frames here is live shows in
+        one-by-form answers then pc r to line.form u found.0 found.1 found.2 (does u shows))
+        reached
 
     by_next : (k : Next) → k ≢ Not
-        → DoneOrNot (ShowsKnown now fixed pages shown compared)
-        (ShowsKnown left after left_pages left_shown left_compared) line.size pc r r' k
+        → DoneOrNot (answers_of places) (ShowsKnown now fixed state pages shown compared)
+        (ShowsKnown left after left_state left_pages left_shown left_compared) line.size pc r r' k
         (effect_of_form line.form)
-        → Reaches then w t (arrived_by line.size r' pc k) budget (more - 1)
+        → Reaches answers then r0 m (arrived_by line.size r' pc k) all
     by_next On q d =
-        go (arrived_by line.size r' pc On) (λ u s. d ((f, bytes_of_pages known), t) u s)
+        go (arrived_by line.size r' pc On) (λ u s. d (f, bytes_of_pages known) u s)
     by_next Short q d =
-        go (arrived_by line.size r' pc Short) (λ u s. d ((f, bytes_of_pages known), t) u s)
+        go (arrived_by line.size r' pc Short) (λ u s. d (f, bytes_of_pages known) u s)
     by_next (To target) q d =
-        go (arrived_by line.size r' pc (To target)) (λ u s. d ((f, bytes_of_pages known), t) u s)
+        go (arrived_by line.size r' pc (To target)) (λ u s. d (f, bytes_of_pages known) u s)
     by_next Not q d = absurd (q refl)
 
 -- and by one that isn't
-pub line-not-done : {F : Type 0} (old new : (Still × F) × List (Option (List ℕ)) → ℕ → World
-    → Type 0) (size pc : ℕ) (r r' : Registers) (e : Registers → Effect) (budget more : ℕ)
-    → DoneOrNot old new size pc r r' Not e → (f : (Still × F) × List (Option (List ℕ))) (t : ℕ)
-    (w : World) → Reaches (old f t) w t (with_pc r pc) budget more
-    → Reaches (new f t) w t (with_pc r' pc) budget more
-line-not-done old new size pc r r' e budget more done f t w reached =
-    subst (λ (x : Registers). Reaches (new f t) w t x budget more) (sym done.0)
-    (reaches-shown (old f t) (new f t) w t (with_pc r pc) budget more (λ u s. done.1 f t u s)
+pub line-not-done : {Fixed M : Type 0} (answers : Fixed → MemoryAnswers M)
+    (old new : Fixed → M → Type 0) (size pc : ℕ) (r r' : Registers) (e : Registers → Effect)
+    (made : ℕ) → DoneOrNot answers old new size pc r r' Not e → (f : Fixed) (r0 : Registers) (m : M)
+    → Reaches (answers f) (old f) r0 m (with_pc r pc) made
+    → Reaches (answers f) (new f) r0 m (with_pc r' pc) made
+line-not-done answers old new size pc r r' e made done f r0 m reached =
+    subst (λ (x : Registers). Reaches (answers f) (new f) r0 m x made) (sym done.0)
+    (reaches-shown (answers f) r0 m (old f) (new f) (with_pc r pc) made (λ u s. done.1 f u s)
     reached)
 
 -- Where a run of lines led nowhere, its first line is that of the code there.

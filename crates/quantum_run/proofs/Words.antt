@@ -6,27 +6,27 @@ use Rattle.std.proofs.Common.{Bool, Option, Some, Ok, slice_get, map}
 use Rattle.std.specs.Prelude.{slice_index}
 use Rattle.std.specs.Option.{option_map}
 use Rattle.std.proofs.lemmas.List.{drop-drop}
-use Rattle.dos_world.specs.World.{World}
 use Rattle.dos_world.specs.Reach.{number_of}
 use Rattle.dos_world.specs.declared.Access.TheVariants.{Fetch}
 use Rattle.dos_world.specs.declared.Size.TheVariants.{Half}
-use Rattle.page_store.specs.Store.{whole}
+use Rattle.page_store.specs.Store.{joined, whole}
 use Rattle.page_store.proofs.Pages.{length-whole}
 use Rattle.code_pages.specs.Codes.{IsCodeIn}
 use Rattle.code_pages.proofs.KnownLaws.{line-of-start}
 use Rattle.code_pages.specs.declared.line.Line.{Line}
 use Rattle.code_pages.specs.Lines.{AreKnownPages, CodePage, IsCodeLine, IsLineAt, IsStartIn, Known}
 use Rattle.code_pages.specs.Lines.{bytes_of_pages}
-use Rattle.flat_machine.specs.Step.{half_at}
-use Rattle.rv_exec.specs.Runs.{word_at}
+use Rattle.flat_machine.specs.Over.{MemoryAnswers}
+use Rattle.rv_exec.specs.Follows.{word_in}
+use Rattle.quantum_run.specs.Answering.{Places, Still, run_answers}
 use Rattle.quantum_run.specs.declared.slot.Slot.{Slot}
 use Rattle.quantum_run.specs.Finding.{AreFramesOf, page_start}
 use Rattle.quantum_run.specs.Knowing.{AreSameAround, IsLineFor}
 use Rattle.quantum_run.specs.Knowing.{code_place, empty_slot, slot_of}
-use Rattle.quantum_run.specs.Showing.{HoldsWorld, ShowsKnown, Still}
+use Rattle.quantum_run.specs.Showing.{ShowsKnown}
 use Rattle.quantum_run.proofs.Comparing.{slot-there}
-use Rattle.quantum_run.proofs.Places.{read-joined}
-use Rattle.quantum_run.proofs.Reaching.{half-found, number-four, word-alone, word-both}
+use Rattle.quantum_run.proofs.Places.{read-there}
+use Rattle.quantum_run.proofs.Reaching.{as-shown, half-found, number-four, word-alone, word-both}
 
 Some-same : {A : Type 0} {x y : A} → ◌≡◌ {A = Option A} (Some x) (Some y) → x ≡ y
 Some-same h = cc
@@ -79,35 +79,36 @@ code-around own page offset code size full even within same (inr pair) = let roo
 -- ---- the word
 
 -- a halfword of a page that a fetch finds
-half-in : (fixed : Still) (pages : List (Option (List ℕ))) (t : ℕ) (w : World)
-    (shown : List Slot) (address a : ℕ) (page : List ℕ) → HoldsWorld fixed pages t w
-    → AreFramesOf fixed.thread fixed.owners fixed.entries Fetch shown → a < 2 ^ 32
+half-in : {M : Type 0} (s : Still) (places : Places M) (m : M) (pages : List (Option (List ℕ)))
+    (shown : List Slot) (address a : ℕ) (page : List ℕ) → places.bytes m ≡ joined pages
+    → AreFramesOf s.thread s.owners s.entries Fetch shown → a < 2 ^ 32
     → a / 4096 ≡ address / 4096 → a % 2 ≡ 0
     → (slot_of shown address).start ≡ page_start address → address < 2 ^ 32
     → slice_get pages (slot_of shown address).frame ≡ Some (Some page)
-    → half_at w t a ≡ Ok (number_of (take 2 (drop (a % 4096) (whole page))))
-half-in fixed pages t w shown address a page holds frames small number even found fits there =
+    → (run_answers s places).fetch m a ≡ Ok (number_of (take 2 (drop (a % 4096) (whole page))))
+half-in s places m pages shown address a page are frames small number even found fits there =
     let frame = (slot_of shown address).frame in
     let at = frames (address / 4096 % 64) empty_slot (slot-there shown address fits found) in
-    half-found fixed pages t w holds a frame even
+    half-found s places m (joined pages) a frame
+    (number_of (take 2 (drop (a % 4096) (whole page)))) are even
     (at.finds a small (ap (λ (n : ℕ). n * 4096) number ∙ sym found))
-    ∙ ap Ok (sym (read-joined pages frame a Half page
-    (number_of (take 2 (drop (a % 4096) (whole page)))) there (omega (arith, even)) refl))
+    (read-there pages frame (a % 4096) Half page
+    (number_of (take 2 (drop (a % 4096) (whole page)))) there (omega (arith, even)) refl)
 
-module _ (fixed : Still) (pages : List (Option (List ℕ))) (t : ℕ) (w : World)
-    (shown : List Slot) (address : ℕ) (page : List ℕ) (holds : HoldsWorld fixed pages t w)
-    (frames : AreFramesOf fixed.thread fixed.owners fixed.entries Fetch shown)
+module _ {M : Type 0} (s : Still) (places : Places M) (m : M) (pages : List (Option (List ℕ)))
+    (shown : List Slot) (address : ℕ) (page : List ℕ) (are : places.bytes m ≡ joined pages)
+    (frames : AreFramesOf s.thread s.owners s.entries Fetch shown)
     (even : address % 2 ≡ 0) (fits : address < 2 ^ 32)
     (found : (slot_of shown address).start ≡ page_start address)
     (there : slice_get pages (slot_of shown address).frame ≡ Some (Some page)) where
   -- a code in the page that a fetch finds is the word there
-  pub word-in : (code : ℕ) → IsCodeIn (whole page) (address % 4096) code
-      → word_at w t address ≡ Ok code
-  word-in code (inl lone) =
-      word-alone w t address code
-      (half-in fixed pages t w shown address address page holds frames fits refl even found fits
+  pub word-there : (code : ℕ) → IsCodeIn (whole page) (address % 4096) code
+      → word_in (run_answers s places) m address ≡ Ok code
+  word-there code (inl lone) =
+      word-alone (run_answers s places) m address code
+      (half-in s places m pages shown address address page are frames fits refl even found fits
       there ∙ ap Ok (sym lone.1)) lone.0
-  word-in code (inr pair) =
+  word-there code (inr pair) =
       let bytes : List ℕ = drop (address % 4096) (whole page) in
       let low : ℕ = number_of (take 2 bytes) in
       let high : ℕ = number_of (take 2 (drop 2 bytes)) in
@@ -118,11 +119,11 @@ module _ (fixed : Still) (pages : List (Option (List ℕ))) (t : ℕ) (w : World
       let next : after ≡ address + 2 = omega (arith, even, fits, room) in
       let number : after / 4096 ≡ address / 4096 = omega (arith, next, room) in
       let offset : address % 4096 + 2 ≡ after % 4096 = omega (arith, next, room) in
-      word-both w t address low high
-      (half-in fixed pages t w shown address address page holds frames fits refl even found fits
+      word-both (run_answers s places) m address low high
+      (half-in s places m pages shown address address page are frames fits refl even found fits
       there)
       (omega (arith, is, full))
-      (half-in fixed pages t w shown address after page holds frames
+      (half-in s places m pages shown address after page are frames
       (omega (arith, next, fits, room)) number (omega (arith, next, even)) found fits there
       ∙ ap (λ (k : ℕ). Ok (number_of (take 2 (drop k (whole page))))) (sym offset)
       ∙ ap (λ (xs : List ℕ). Ok (number_of (take 2 xs)))
@@ -131,11 +132,12 @@ module _ (fixed : Still) (pages : List (Option (List ℕ))) (t : ℕ) (w : World
 
 -- ---- lines
 
--- At this address of t's stands the code of this line.
-pub record HasLine (known : Known) (w : World) (t address at : ℕ) (line : Line) : Type 0 where
+-- At this address stands the code of this line.
+pub record StandsThere {M : Type 0} (known : Known) (answers : MemoryAnswers M) (m : M)
+    (address at : ℕ) (line : Line) : Type 0 where
   pub page : CodePage
   pub is : IsCodeLine known.lines page.bytes at line
-  pub word : word_at w t address ≡ Ok is.code
+  pub word : word_in answers m address ≡ Ok is.code
 
 got-map : {A B : Type 0} (f : A → B) (xs : List A) (i : ℕ) (x : A) → slice_get xs i ≡ Some x
     → slice_get (map f xs) i ≡ Some (f x)
@@ -150,16 +152,20 @@ line-stands known place offset zero are even some start = absurd (omega (arith, 
 line-stands known place offset (suc k) are even some start =
     line-of-start known place offset k start.page are start.is even start.begins
 
--- At an address whose block has been compared t fetches the code of its line, unless that is stale.
-pub line-word : {F : Type 0} (now : Still) (fixed_now : F) (pages : List (Option (List ℕ)))
-    (shown : List Slot) (compared : List Bool) (f : Still × F) (known : Known) (t : ℕ) (w : World)
-    (address at : ℕ) (line : Line)
-    → ShowsKnown now fixed_now pages shown compared (f, bytes_of_pages known) t w
+-- At an address whose block has been compared the code of its line is fetched, unless that is
+-- stale.
+pub line-word : {F M : Type 0} (places : F → Places M) (now : Still) (fixed_now : F) (state : M)
+    (pages : List (Option (List ℕ))) (shown : List Slot) (compared : List Bool) (f : Still × F)
+    (known : Known) (m : M) (address at : ℕ) (line : Line)
+    → ShowsKnown now fixed_now state pages shown compared (f, bytes_of_pages known) m
+    → (places fixed_now).bytes state ≡ joined pages
     → AreFramesOf now.thread now.owners now.entries Fetch shown → AreKnownPages known
     → IsLineFor shown compared known address at → 0 < at → address % 2 ≡ 0 → address < 2 ^ 32
-    → slice_get known.lines at ≡ Some line → 0 < line.size → HasLine known w t address at line
-line-word now fixed_now pages shown compared f known t w address at line s frames are for some even
-    fits there live =
+    → slice_get known.lines at ≡ Some line → 0 < line.size
+    → StandsThere known (run_answers f.0 (places f.1)) m address at line
+line-word {F} {M} places now fixed_now state pages shown compared f known m address at line s
+    bytes_are
+    frames are for some even fits there live =
     let right = s.right address fits for.compared_is in
     let start = for.start in
     let offset : ℕ = address % 4096 in
@@ -180,12 +186,12 @@ line-word now fixed_now pages shown compared f known t w address at line s frame
     record {
       page = start.page;
       is = is;
-      word = word-in f.0 pages t w shown address right.page s.shows.holds
-          (subst (λ (x : Still). AreFramesOf x.thread x.owners x.entries Fetch shown) s.shows.still
-          frames)
+      word = as-shown places now fixed_now state f m
+          (λ (answers : MemoryAnswers M) (u : M). word_in answers u address ≡ Ok is.code) s.shows
+          (word-there now (places fixed_now) state pages shown address right.page bytes_are frames
           even fits for.compared_is.found right.there is.code
           (code-around right.own (whole right.page) offset is.code size
           (length-whole right.page) two (omega arith) right.same
           (subst (λ (xs : List ℕ). IsCodeIn xs offset is.code) own
-          (subst (λ (o : ℕ). IsCodeIn start.page.bytes o is.code) begins is.stands)));
+          (subst (λ (o : ℕ). IsCodeIn start.page.bytes o is.code) begins is.stands))));
     }

@@ -1,12 +1,12 @@
 -- Instructions by the lines that are known of a page of code. This project's own rules.
 use Rattle.std.specs.Prelude.{ℕ, ◌≡◌, ◌<◌, ◌%◌, ◌^◌, Bool, List, Option, Some, None, slice_get}
-use Rattle.dos_world.specs.World.{World, Registers, with_pc}
+use Rattle.dos_world.specs.World.{Registers, with_pc}
 use Rattle.dos_world.specs.declared.Reason.{Reason}
 use Rattle.dos_world.specs.declared.Reason.TheVariants.{Service}
 use Rattle.rv_exec.specs.declared.Went.{Went}
 use Rattle.rv_exec.specs.declared.Went.TheVariants.{Step, Stop}
 use Rattle.flat_machine.specs.Effect.{Effect}
-use Rattle.flat_machine.specs.Over.{world_answers}
+use Rattle.flat_machine.specs.Over.{MemoryAnswers}
 use Rattle.rv_exec.specs.Arrivals.{PerformsBy}
 use Rattle.rv_exec.specs.declared.next.Next.{Next}
 use Rattle.rv_exec.specs.declared.next.Next.TheVariants.{On, Short, To, Not}
@@ -16,23 +16,19 @@ use Rattle.quantum_run.specs.declared.slot.Slot.{Slot}
 use Rattle.quantum_run.specs.Finding.{page_start}
 use Rattle.quantum_run.specs.Knowing.{IsLineFor}
 
--- An instruction of this size at pc is done as the effect says, on a memory that shows old before
--- and new afterwards, as the memory of whichever thread in whichever flat world.
-abbrev pub PerformsInWorlds : {Fixed : Type 0} → (old new : Fixed → ℕ → World → Type 0)
-    → (size pc : ℕ) → (r after : Registers) → Next → (Registers → Effect) → Type 0
-PerformsInWorlds {Fixed} old new size pc r after next e =
-    PerformsBy (λ (f : Fixed × ℕ). world_answers f.1) (λ f. old f.0 f.1) (λ f. new f.0 f.1) size pc
-    r after next Service e
-
--- What came of such an instruction: it is done, or it isn't and nothing is changed.
-abbrev pub DoneOrNot : {Fixed : Type 0} → (old new : Fixed → ℕ → World → Type 0) → (size pc : ℕ)
-    → (r after : Registers) → Next → (Registers → Effect) → Type 0
-DoneOrNot old new size pc r after On e = PerformsInWorlds old new size pc r after On e
-DoneOrNot old new size pc r after Short e = PerformsInWorlds old new size pc r after Short e
-DoneOrNot old new size pc r after (To target) e =
-    PerformsInWorlds old new size pc r after (To target) e
-DoneOrNot old new size pc r after Not e =
-    (with_pc after pc ≡ with_pc r pc) × ((f : _) (t : ℕ) (w : World) → old f t w → new f t w)
+-- What came of an instruction of this size at pc, on a memory that shows old before and new
+-- afterwards: it is done as the effect says, or it isn't and nothing is changed.
+abbrev pub DoneOrNot : {Fixed M : Type 0} → (Fixed → MemoryAnswers M)
+    → (old new : Fixed → M → Type 0) → (size pc : ℕ) → (r after : Registers) → Next
+    → (Registers → Effect) → Type 0
+DoneOrNot answers old new size pc r after On e =
+    PerformsBy answers old new size pc r after On Service e
+DoneOrNot answers old new size pc r after Short e =
+    PerformsBy answers old new size pc r after Short Service e
+DoneOrNot answers old new size pc r after (To target) e =
+    PerformsBy answers old new size pc r after (To target) Service e
+DoneOrNot answers old new size pc r after Not e =
+    (with_pc after pc ≡ with_pc r pc) × ((f : _) (m : _) → old f m → new f m)
 
 -- A line stands at this place.
 pub record HasLine (lines : List Line) (at : ℕ) : Type 0 where

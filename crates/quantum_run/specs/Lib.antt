@@ -3,6 +3,7 @@ pub mod ThreadRuns
 pub mod Finding
 pub mod Knowing
 pub mod Pages
+pub mod Answering
 pub mod Showing
 pub mod Mix
 pub mod Laws

@@ -1,5 +1,5 @@
 -- A thread that runs in place, over the frames and its space. This project's own rules.
-use Rattle.std.specs.Prelude.{ℕ, ◌≡◌, ◌==◌, ◌<◌, ◌-◌, ⊤, Bool, false, List, [], Option, Some}
+use Rattle.std.specs.Prelude.{ℕ, ◌≡◌, ◌==◌, ◌<◌, ⊤, Bool, false, List, [], Option, Some}
 use Rattle.std.specs.Prelude.{None, Err, option_map, length}
 use Rattle.std.specs.List.{list_any}
 pub use Rattle.dos_world.specs.World.{ran}
@@ -8,8 +8,8 @@ use Rattle.dos_world.specs.declared.Entry.{Entry}
 use Rattle.dos_world.specs.declared.Owner.{Owner}
 use Rattle.dos_world.specs.declared.Reason.{Reason}
 use Rattle.page_store.specs.Store.{Store, joined, IsOwned}
-use Rattle.flat_machine.specs.Step.{step}
-use Rattle.rv_exec.specs.Runs.{Runs}
+use Rattle.flat_machine.specs.Over.{MemoryAnswers, one_in}
+use Rattle.rv_exec.specs.Runs.{GoesTo}
 use Rattle.flat_machine.specs.Laws.{kept, after_steps}
 use Rattle.quantum_run.specs.Finding.{page_start}
 use Rattle.quantum_run.specs.Shows.{thread_space}
@@ -37,30 +37,39 @@ pub record IsRunOf (w : World) (s : Store) (entries : List (ℕ × Entry)) (t : 
   pub space : thread_space w t ≡ entries
   pub thread : option_map kept (thread_at w t) ≡ Some (registers, budget)
 
--- what the end of a run says of the world that it ends in: the budget has come down to the floor,
--- or the next instruction stops
-abbrev pub Stops : ℕ → World → ℕ → ℕ → Option Reason → Type 0
-Stops floor w t left None = left ≡ floor
-Stops floor w t left (Some reason) = step w t ≡ Err reason
+-- ---- over any answers
 
--- From w on, t went as far as its budget fell, to a world that the memory shows.
-pub record Reaches (shows : World → Type 0) (w : World) (t : ℕ) (registers : Registers)
-    (budget left : ℕ) : Type 0 where
-  pub now : World
-  pub ran : after_steps (budget - left) w t ≡ Some now
-  pub runs : Runs shows now t registers left
+-- Why the next instruction stops, where it does.
+abbrev pub StopsFor : {M : Type 0} → MemoryAnswers M → Registers → M → Option Reason → Type 0
+StopsFor answers r m None = ⊤
+StopsFor answers r m (Some reason) = one_in answers r m ≡ Err reason
 
--- And it stopped there for this reason, or for none.
-pub record Goes (floor : ℕ) (shows : World → Type 0) (w : World) (t : ℕ) (registers : Registers)
-    (budget left : ℕ) (stop : Option Reason) : Type 0 where
-  pub reaches : Reaches shows w t registers budget left
-  pub stops : Stops floor reaches.now t left stop
+-- From these registers and this memory so many instructions led to those registers, and to a memory
+-- that is shown.
+pub record Reaches {M : Type 0} (answers : MemoryAnswers M) (shows : M → Type 0) (r : Registers)
+    (m : M) (after : Registers) (made : ℕ) : Type 0 where
+  pub now : M
+  pub shown : shows now
+  pub ran : GoesTo answers made r m after now
+
+-- And the next one stops there for this reason, or for none.
+pub record Goes {M : Type 0} (answers : MemoryAnswers M) (shows : M → Type 0) (r : Registers)
+    (m : M) (after : Registers) (made : ℕ) (stop : Option Reason) : Type 0 where
+  pub reaches : Reaches answers shows r m after made
+  pub stops : StopsFor answers after reaches.now stop
 
 -- ---- up to some addresses
 
 -- it is one of these addresses
 abbrev pub is_stop_at : (stops : List ℕ) → (pc : ℕ) → Bool
 is_stop_at stops pc = list_any (λ (stop : ℕ). stop == pc) stops
+
+-- Each of so many instructions, from these registers and this memory on, is at none of these
+-- addresses.
+abbrev pub AreElsewhere : {M : Type 0} → MemoryAnswers M → (stops : List ℕ) → (count : ℕ)
+    → Registers → M → Type 0
+AreElsewhere {M} answers stops count r m = (made : ℕ) (after : Registers) (u : M) → made < count
+    → GoesTo answers made r m after u → is_stop_at stops after.pc ≡ false
 
 -- A thread is at none of these addresses, where it lives.
 abbrev pub IsElsewhere : (stops : List ℕ) → Option Thread → Type 0
@@ -78,8 +87,8 @@ StartsElsewhere stops count w t = (made : ℕ) (u : World) → made < count
 abbrev pub AreOutside : (stops : List ℕ) → (base : ℕ) → Type 0
 AreOutside stops base = (pc : ℕ) → page_start pc ≡ base → is_stop_at stops pc ≡ false
 
--- From w on, t went as far as its budget fell, by instructions of the page that begins at base.
-pub record ReachesIn (base : ℕ) (shows : World → Type 0) (w : World) (t : ℕ) (registers : Registers)
-    (budget left : ℕ) : Type 0 where
-  pub reaches : Reaches shows w t registers budget left
-  pub outside : (stops : List ℕ) → AreOutside stops base → StartsElsewhere stops (budget - left) w t
+-- So many instructions led there, each of the page that begins at base.
+pub record ReachesIn {M : Type 0} (base : ℕ) (answers : MemoryAnswers M) (shows : M → Type 0)
+    (r : Registers) (m : M) (after : Registers) (made : ℕ) : Type 0 where
+  pub reaches : Reaches answers shows r m after made
+  pub outside : (stops : List ℕ) → AreOutside stops base → AreElsewhere answers stops made r m

@@ -2,14 +2,14 @@
 ghost use Rattle.std.specs.Prelude.{◌≡◌, ◌+◌, ◌-◌, ◌<◌, ◌≤◌, ◌/◌, ◌%◌, ◌^◌, ◌⊎◌, ◌==◌, ℕ};
 ghost use Rattle.std.specs.Prelude.{List, true};
 ghost use Rattle.std.specs.List.{list_any};
-ghost use Rattle.dos_world.specs.World.{World, with_pc};
-ghost use Rattle.rv_exec.specs.Runs.{Runs};
+ghost use Rattle.dos_world.specs.World.{with_pc};
 ghost use Rattle.code_pages.specs.Lines.{AreKnownPages, bytes_of_pages};
 ghost use Rattle.quantum_run.specs.Finding.{page_start};
 ghost use Rattle.quantum_run.specs.Flying.{IsLineOf};
 ghost use Rattle.quantum_run.specs.Knowing.{slot_of};
-ghost use Rattle.quantum_run.specs.Showing.{ShowsKnown, Still, still};
-ghost use Rattle.quantum_run.specs.ThreadRuns.{AreOutside, Reaches, ReachesIn, StartsElsewhere};
+ghost use Rattle.quantum_run.specs.Answering.{Still, run_answers, still};
+ghost use Rattle.quantum_run.specs.Showing.{ShowsKnown};
+ghost use Rattle.quantum_run.specs.ThreadRuns.{AreElsewhere, AreOutside, Reaches, ReachesIn};
 
 use crate::extent::{Between, Extent, Whole};
 use crate::lines::{follow, line_in, part_of_run};
@@ -73,15 +73,15 @@ fn fly_in_page<P: Pages, E: Extent>(
     pc: u32,
     budget: u32,
 ) -> Leg
-    ensures reaches { (floor : ℕ) (f : Still × P.Fixed) (t : ℕ) (w : World) → Runs (ShowsKnown
+    ensures reaches { (f : Still × P.Fixed) (m : P.State) → ShowsKnown
         (still memory.old.tid (P.owners memory.old.pages) memory.old.space.now.entries)
-        (P.fixed memory.old.pages) (P.pages memory.old.pages) memory.old.shown memory.old.compared
-        (f, bytes_of_pages code.now) t) w t (with_pc regs.old pc) (floor + budget)
-        → ReachesIn (page_start pc) (ShowsKnown
+        (P.fixed memory.old.pages) (P.state memory.old.pages) (P.pages memory.old.pages)
+        memory.old.shown memory.old.compared (f, bytes_of_pages code.now) m
+        → ReachesIn (page_start pc) (run_answers f.0 (P.places f.1)) (ShowsKnown
         (still memory.new.tid (P.owners memory.new.pages) memory.new.space.now.entries)
-        (P.fixed memory.new.pages) (P.pages memory.new.pages) memory.new.shown memory.new.compared
-        (f, bytes_of_pages code.now) t) w t (with_pc regs.new result.pc) (floor + budget)
-        (floor + result.left) }
+        (P.fixed memory.new.pages) (P.state memory.new.pages) (P.pages memory.new.pages)
+        memory.new.shown memory.new.compared (f, bytes_of_pages code.now)) (with_pc regs.old pc) m
+        (with_pc regs.new result.pc) (budget - result.left) }
     ensures within { result.left ≤ budget }
     ensures on { result.goes_on ≡ true → result.left < budget }
     ensures line { (result.at ≡ 0) ⊎ IsLineOf memory.new.shown memory.new.compared code.now
@@ -157,15 +157,15 @@ pub fn fly<P: Pages>(
     pc: u32,
     budget: u32,
 ) -> Flown
-    ensures reaches { (floor : ℕ) (f : Still × P.Fixed) (t : ℕ) (w : World) → Runs (ShowsKnown
+    ensures reaches { (f : Still × P.Fixed) (m : P.State) → ShowsKnown
         (still memory.old.tid (P.owners memory.old.pages) memory.old.space.now.entries)
-        (P.fixed memory.old.pages) (P.pages memory.old.pages) memory.old.shown memory.old.compared
-        (f, bytes_of_pages code.now) t) w t (with_pc regs.old pc) (floor + budget)
-        → Reaches (ShowsKnown
+        (P.fixed memory.old.pages) (P.state memory.old.pages) (P.pages memory.old.pages)
+        memory.old.shown memory.old.compared (f, bytes_of_pages code.now) m
+        → Reaches (run_answers f.0 (P.places f.1)) (ShowsKnown
         (still memory.new.tid (P.owners memory.new.pages) memory.new.space.now.entries)
-        (P.fixed memory.new.pages) (P.pages memory.new.pages) memory.new.shown memory.new.compared
-        (f, bytes_of_pages code.now) t) w t (with_pc regs.new result.pc) (floor + budget)
-        (floor + result.left) }
+        (P.fixed memory.new.pages) (P.state memory.new.pages) (P.pages memory.new.pages)
+        memory.new.shown memory.new.compared (f, bytes_of_pages code.now)) (with_pc regs.old pc) m
+        (with_pc regs.new result.pc) (budget - result.left) }
     ensures within { result.left ≤ budget }
     ensures line { (result.at ≡ 0) ⊎ IsLineOf memory.new.shown memory.new.compared code.now
         code.now.lines (page_start result.pc) result.pc result.at }
@@ -204,20 +204,21 @@ pub fn fly_between<P: Pages>(
     budget: u32,
     stops: &[u32],
 ) -> Flown
-    ensures reaches { (floor : ℕ) (f : Still × P.Fixed) (t : ℕ) (w : World) → Runs (ShowsKnown
+    ensures reaches { (f : Still × P.Fixed) (m : P.State) → ShowsKnown
         (still memory.old.tid (P.owners memory.old.pages) memory.old.space.now.entries)
-        (P.fixed memory.old.pages) (P.pages memory.old.pages) memory.old.shown memory.old.compared
-        (f, bytes_of_pages code.now) t) w t (with_pc regs.old pc) (floor + budget)
-        → Reaches (ShowsKnown
+        (P.fixed memory.old.pages) (P.state memory.old.pages) (P.pages memory.old.pages)
+        memory.old.shown memory.old.compared (f, bytes_of_pages code.now) m
+        → Reaches (run_answers f.0 (P.places f.1)) (ShowsKnown
         (still memory.new.tid (P.owners memory.new.pages) memory.new.space.now.entries)
-        (P.fixed memory.new.pages) (P.pages memory.new.pages) memory.new.shown memory.new.compared
-        (f, bytes_of_pages code.now) t) w t (with_pc regs.new result.pc) (floor + budget)
-        (floor + result.left) }
-    ensures elsewhere { (floor : ℕ) (f : Still × P.Fixed) (t : ℕ) (w : World) → Runs (ShowsKnown
+        (P.fixed memory.new.pages) (P.state memory.new.pages) (P.pages memory.new.pages)
+        memory.new.shown memory.new.compared (f, bytes_of_pages code.now)) (with_pc regs.old pc) m
+        (with_pc regs.new result.pc) (budget - result.left) }
+    ensures elsewhere { (f : Still × P.Fixed) (m : P.State) → ShowsKnown
         (still memory.old.tid (P.owners memory.old.pages) memory.old.space.now.entries)
-        (P.fixed memory.old.pages) (P.pages memory.old.pages) memory.old.shown memory.old.compared
-        (f, bytes_of_pages code.now) t) w t (with_pc regs.old pc) (floor + budget)
-        → StartsElsewhere stops.now (floor + budget - (floor + result.left)) w t }
+        (P.fixed memory.old.pages) (P.state memory.old.pages) (P.pages memory.old.pages)
+        memory.old.shown memory.old.compared (f, bytes_of_pages code.now) m
+        → AreElsewhere (run_answers f.0 (P.places f.1)) stops.now (budget - result.left)
+        (with_pc regs.old pc) m }
     ensures within { result.left ≤ budget }
 {
     let mut pc = pc;

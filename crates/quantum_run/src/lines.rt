@@ -1,7 +1,7 @@
 // Instructions of a page of code, by the lines that are known of it.
 ghost use Rattle.std.specs.Prelude.{◌≡◌, ◌≢◌, ◌+◌, ◌-◌, ◌<◌, ◌≤◌, ◌%◌, ◌^◌, ℕ, Bool, List, Option};
 ghost use Rattle.std.specs.Prelude.{Some, false, length, slice_get, true};
-ghost use Rattle.dos_world.specs.World.{World, Registers, get, set, with_pc};
+ghost use Rattle.dos_world.specs.World.{Registers, get, set, with_pc};
 ghost use Rattle.dos_world.specs.declared.Reason.{Reason};
 ghost use Rattle.rv_isa.specs.declared.Instr.{Instr};
 ghost use Rattle.rv_isa.specs.declared.Instr.TheVariants.{Branch, Jal, Jalr, Load, Store};
@@ -11,13 +11,13 @@ ghost use Rattle.flat_machine.specs.Effect as effects;
 ghost use Rattle.flat_machine.specs.Effect.{effect};
 ghost use Rattle.rv_exec.specs.Arrivals.{SettlesBy};
 ghost use Rattle.rv_exec.specs.Instruction.{effect_of_form};
-ghost use Rattle.rv_exec.specs.Runs.{Runs};
 ghost use Rattle.code_pages.specs.Kinds.{ends};
 ghost use Rattle.code_pages.specs.declared.kind.Kind.TheVariants.{Below, End, Equal, Less};
 ghost use Rattle.code_pages.specs.Lines.{AreRuns, Known, bytes_of_pages};
 ghost use Rattle.code_pages.specs.declared.line.Line.{Line as line_type};
 ghost use Rattle.quantum_run.specs.Flying.{DoneOrNot, HasLine, IsLineOf, IsRunWithin};
-ghost use Rattle.quantum_run.specs.Showing.{ShowsKnown, Still, still};
+ghost use Rattle.quantum_run.specs.Answering.{Still, run_answers, still};
+ghost use Rattle.quantum_run.specs.Showing.{ShowsKnown, answers_of};
 ghost use Rattle.quantum_run.specs.ThreadRuns.{ReachesIn};
 
 use crate::extent::{Extent, Part};
@@ -43,12 +43,14 @@ fn address_of(regs: &Regs, form: &Form) -> u32
 #[inline(always)]
 #[tactic(auto, unfolding(flat_machine::specs::Effect::effect))]
 fn load_quickly<P: Pages>(regs: &mut Regs, memory: &Running<'_, P>, form: &Form, op: LoadOp) -> Next
-    ensures { (size pc : ℕ) → DoneOrNot (ShowsKnown
+    ensures { (size pc : ℕ) → DoneOrNot (answers_of P.places) (ShowsKnown
         (still memory.now.tid (P.owners memory.now.pages) memory.now.space.now.entries)
-        (P.fixed memory.now.pages) (P.pages memory.now.pages) memory.now.shown memory.now.compared)
+        (P.fixed memory.now.pages) (P.state memory.now.pages) (P.pages memory.now.pages)
+        memory.now.shown memory.now.compared)
         (ShowsKnown
         (still memory.now.tid (P.owners memory.now.pages) memory.now.space.now.entries)
-        (P.fixed memory.now.pages) (P.pages memory.now.pages) memory.now.shown memory.now.compared)
+        (P.fixed memory.now.pages) (P.state memory.now.pages) (P.pages memory.now.pages)
+        memory.now.shown memory.now.compared)
         size pc regs.old regs.new result
         (effect (Load op form.now.rd form.now.rs1 form.now.imm) size) }
 {
@@ -71,12 +73,14 @@ fn store_quickly<P: Pages>(
     form: &Form,
     op: StoreOp,
 ) -> Next
-    ensures done { (size pc : ℕ) → DoneOrNot (ShowsKnown
+    ensures done { (size pc : ℕ) → DoneOrNot (answers_of P.places) (ShowsKnown
         (still memory.old.tid (P.owners memory.old.pages) memory.old.space.now.entries)
-        (P.fixed memory.old.pages) (P.pages memory.old.pages) memory.old.shown memory.old.compared)
+        (P.fixed memory.old.pages) (P.state memory.old.pages) (P.pages memory.old.pages)
+        memory.old.shown memory.old.compared)
         (ShowsKnown
         (still memory.new.tid (P.owners memory.new.pages) memory.new.space.now.entries)
-        (P.fixed memory.new.pages) (P.pages memory.new.pages) memory.new.shown memory.new.compared)
+        (P.fixed memory.new.pages) (P.state memory.new.pages) (P.pages memory.new.pages)
+        memory.new.shown memory.new.compared)
         size pc regs.now regs.now result
         (effect (Store op form.now.rs1 form.now.rs2 form.now.imm) size) }
     ensures same { (memory.new.shown ≡ memory.old.shown)
@@ -202,12 +206,14 @@ fn other<P: Pages, E: Extent>(
     pc: u32,
 ) -> Next
     ensures done { (instr : Instr) (size : ℕ) → instr_of_form form.now ≡ Some (instr, size)
-        → DoneOrNot (ShowsKnown
+        → DoneOrNot (answers_of P.places) (ShowsKnown
         (still memory.old.tid (P.owners memory.old.pages) memory.old.space.now.entries)
-        (P.fixed memory.old.pages) (P.pages memory.old.pages) memory.old.shown memory.old.compared)
+        (P.fixed memory.old.pages) (P.state memory.old.pages) (P.pages memory.old.pages)
+        memory.old.shown memory.old.compared)
         (ShowsKnown
         (still memory.new.tid (P.owners memory.new.pages) memory.new.space.now.entries)
-        (P.fixed memory.new.pages) (P.pages memory.new.pages) memory.new.shown memory.new.compared)
+        (P.fixed memory.new.pages) (P.state memory.new.pages) (P.pages memory.new.pages)
+        memory.new.shown memory.new.compared)
         size pc regs.old regs.new result (effect instr size) }
     ensures same { (memory.new.shown ≡ memory.old.shown)
         × (memory.new.compared ≡ memory.old.compared) }
@@ -269,12 +275,14 @@ fn perform_line<P: Pages, E: Extent>(
     line: &Line,
     base: u32,
 ) -> Next
-    ensures done { DoneOrNot (ShowsKnown
+    ensures done { DoneOrNot (answers_of P.places) (ShowsKnown
         (still memory.old.tid (P.owners memory.old.pages) memory.old.space.now.entries)
-        (P.fixed memory.old.pages) (P.pages memory.old.pages) memory.old.shown memory.old.compared)
+        (P.fixed memory.old.pages) (P.state memory.old.pages) (P.pages memory.old.pages)
+        memory.old.shown memory.old.compared)
         (ShowsKnown
         (still memory.new.tid (P.owners memory.new.pages) memory.new.space.now.entries)
-        (P.fixed memory.new.pages) (P.pages memory.new.pages) memory.new.shown memory.new.compared)
+        (P.fixed memory.new.pages) (P.state memory.new.pages) (P.pages memory.new.pages)
+        memory.new.shown memory.new.compared)
         line.now.size ((base + line.now.offset) % 2 ^ 32) regs.old regs.new result
         (effect_of_form line.now.form) }
     ensures same { (memory.new.shown ≡ memory.old.shown)
@@ -357,17 +365,17 @@ pub fn follow<P: Pages, E: Extent>(
     requires some { 0 < from }
     requires there { HasLine lines.now from }
     requires enough { E.whole ≡ true → IsRunWithin lines.now from budget }
-    ensures reaches { (known : Known) (address floor : ℕ) (f : Still × P.Fixed) (t : ℕ) (w : World)
+    ensures reaches { (known : Known) (address : ℕ) (f : Still × P.Fixed) (m : P.State)
         → IsLineOf memory.old.shown memory.old.compared known lines.now base address from
-        → Runs (ShowsKnown
+        → ShowsKnown
         (still memory.old.tid (P.owners memory.old.pages) memory.old.space.now.entries)
-        (P.fixed memory.old.pages) (P.pages memory.old.pages) memory.old.shown memory.old.compared
-        (f, bytes_of_pages known) t) w t (with_pc regs.old address) (floor + budget)
-        → ReachesIn base (ShowsKnown
+        (P.fixed memory.old.pages) (P.state memory.old.pages) (P.pages memory.old.pages)
+        memory.old.shown memory.old.compared (f, bytes_of_pages known) m
+        → ReachesIn base (run_answers f.0 (P.places f.1)) (ShowsKnown
         (still memory.new.tid (P.owners memory.new.pages) memory.new.space.now.entries)
-        (P.fixed memory.new.pages) (P.pages memory.new.pages) memory.new.shown memory.new.compared
-        (f, bytes_of_pages known) t) w t
-        (with_pc regs.new ((base + result.to) % 2 ^ 32)) (floor + budget) (floor + result.left) }
+        (P.fixed memory.new.pages) (P.state memory.new.pages) (P.pages memory.new.pages)
+        memory.new.shown memory.new.compared (f, bytes_of_pages known)) (with_pc regs.old address) m
+        (with_pc regs.new ((base + result.to) % 2 ^ 32)) (budget - result.left) }
     ensures within { result.left ≤ budget }
     ensures stays { (line : line_type) → slice_get lines.now from ≡ Some line
         → result.left ≡ budget → result.to ≡ line.offset }
@@ -421,17 +429,17 @@ pub fn part_of_run<P: Pages>(
     requires runs { AreRuns lines.now }
     requires some { 0 < from }
     requires there { HasLine lines.now from }
-    ensures reaches { (known : Known) (address floor : ℕ) (f : Still × P.Fixed) (t : ℕ) (w : World)
+    ensures reaches { (known : Known) (address : ℕ) (f : Still × P.Fixed) (m : P.State)
         → IsLineOf memory.old.shown memory.old.compared known lines.now base address from
-        → Runs (ShowsKnown
+        → ShowsKnown
         (still memory.old.tid (P.owners memory.old.pages) memory.old.space.now.entries)
-        (P.fixed memory.old.pages) (P.pages memory.old.pages) memory.old.shown memory.old.compared
-        (f, bytes_of_pages known) t) w t (with_pc regs.old address) (floor + budget)
-        → ReachesIn base (ShowsKnown
+        (P.fixed memory.old.pages) (P.state memory.old.pages) (P.pages memory.old.pages)
+        memory.old.shown memory.old.compared (f, bytes_of_pages known) m
+        → ReachesIn base (run_answers f.0 (P.places f.1)) (ShowsKnown
         (still memory.new.tid (P.owners memory.new.pages) memory.new.space.now.entries)
-        (P.fixed memory.new.pages) (P.pages memory.new.pages) memory.new.shown memory.new.compared
-        (f, bytes_of_pages known) t) w t
-        (with_pc regs.new ((base + result.to) % 2 ^ 32)) (floor + budget) (floor + result.left) }
+        (P.fixed memory.new.pages) (P.state memory.new.pages) (P.pages memory.new.pages)
+        memory.new.shown memory.new.compared (f, bytes_of_pages known)) (with_pc regs.old address) m
+        (with_pc regs.new ((base + result.to) % 2 ^ 32)) (budget - result.left) }
     ensures within { result.left ≤ budget }
     ensures stays { (line : line_type) → slice_get lines.now from ≡ Some line
         → result.left ≡ budget → result.to ≡ line.offset }

@@ -3,15 +3,17 @@ ghost use Rattle.std.specs.Prelude.{◌≡◌, ◌<◌, ◌≤◌, ◌+◌, ◌-
 ghost use Rattle.std.specs.Prelude.{length, map, is_some, true, false, replicate};
 ghost use Rattle.dos_world.specs.World.{World, with_pc};
 ghost use Rattle.page_store.specs.Store.{AreHome};
-ghost use Rattle.rv_exec.specs.Runs.{Runs};
+ghost use Rattle.rv_exec.specs.Runs.{GoesTo};
+ghost use Rattle.flat_machine.specs.Over.{one_in};
 ghost use Rattle.flat_machine.specs.Step.{step};
 ghost use Rattle.code_pages.specs.Lines.{bytes_of_pages};
 ghost use Rattle.quantum_run.specs.Pages.{AreOwn, AreReached, AreWithin, is_here, overlay};
-ghost use Rattle.quantum_run.specs.ThreadRuns.{AreMapped, Goes, IsRunOf, StartsElsewhere};
-ghost use Rattle.quantum_run.specs.ThreadRuns.{Reaches, is_stop_at, run_to};
+ghost use Rattle.quantum_run.specs.ThreadRuns.{AreElsewhere, AreMapped, Goes, IsRunOf, Reaches};
+ghost use Rattle.quantum_run.specs.ThreadRuns.{StartsElsewhere, is_stop_at, run_to};
 ghost use Rattle.flat_machine.specs.Laws.{after_steps};
 ghost use Rattle.quantum_run.specs.ThreadRuns.{store_of};
-ghost use Rattle.quantum_run.specs.Showing.{ShowsBy, ShowsKnown, Still, still};
+ghost use Rattle.quantum_run.specs.Answering.{Still, run_answers, still};
+ghost use Rattle.quantum_run.specs.Showing.{ShowsBy, ShowsKnown};
 
 use crate::flight::{fly, fly_between};
 use crate::lent::Lent;
@@ -46,14 +48,13 @@ fn go<P: Pages>(
 ) -> Option<Reason>
     requires known { memory.old.compared ≡ replicate 1024 false }
     requires floor { floor ≤ budget.old }
-    ensures runs { (f : Still × P.Fixed) (t : ℕ) (w : World)
-        → Runs (ShowsBy
-        (still memory.old.tid (P.owners memory.old.pages) memory.old.space.now.entries)
-        (P.fixed memory.old.pages) (P.pages memory.old.pages) f t) w t regs.old budget.old
-        → Goes floor (ShowsBy
+    ensures runs { (f : Still × P.Fixed) (m : P.State)
+        → ShowsBy (still memory.old.tid (P.owners memory.old.pages) memory.old.space.now.entries)
+        (P.fixed memory.old.pages) (P.state memory.old.pages) f m
+        → Goes (run_answers f.0 (P.places f.1)) (ShowsBy
         (still memory.new.tid (P.owners memory.new.pages) memory.new.space.now.entries)
-        (P.fixed memory.new.pages) (P.pages memory.new.pages) f t) w t regs.new budget.old
-        budget.new result }
+        (P.fixed memory.new.pages) (P.state memory.new.pages) f) regs.old m regs.new
+        (budget.old - budget.new) result }
     ensures stop { MatchOption result (budget.new ≡ floor) (λ reason. 0 < budget.new) }
     ensures within { budget.new ≤ budget.old }
 {
@@ -101,22 +102,21 @@ fn go_up_to<P: Pages>(
     stops: &[u32],
 ) -> Option<Reason>
     requires known { memory.old.compared ≡ replicate 1024 false }
-    ensures runs { (f : Still × P.Fixed) (t : ℕ) (w : World)
-        → Runs (ShowsBy
-        (still memory.old.tid (P.owners memory.old.pages) memory.old.space.now.entries)
-        (P.fixed memory.old.pages) (P.pages memory.old.pages) f t) w t regs.old budget.old
-        → Goes budget.new (ShowsBy
+    ensures runs { (f : Still × P.Fixed) (m : P.State)
+        → ShowsBy (still memory.old.tid (P.owners memory.old.pages) memory.old.space.now.entries)
+        (P.fixed memory.old.pages) (P.state memory.old.pages) f m
+        → Goes (run_answers f.0 (P.places f.1)) (ShowsBy
         (still memory.new.tid (P.owners memory.new.pages) memory.new.space.now.entries)
-        (P.fixed memory.new.pages) (P.pages memory.new.pages) f t) w t regs.new budget.old
-        budget.new result }
+        (P.fixed memory.new.pages) (P.state memory.new.pages) f) regs.old m regs.new
+        (budget.old - budget.new) result }
     ensures stop { MatchOption result
         ((budget.new ≡ 0) ⊎ (is_stop_at stops.now regs.new.pc ≡ true)) (λ reason. 0 < budget.new) }
     ensures within { budget.new ≤ budget.old }
-    ensures elsewhere { (f : Still × P.Fixed) (t : ℕ) (w : World)
-        → Runs (ShowsBy
-        (still memory.old.tid (P.owners memory.old.pages) memory.old.space.now.entries)
-        (P.fixed memory.old.pages) (P.pages memory.old.pages) f t) w t regs.old budget.old
-        → StartsElsewhere stops.now (budget.old - budget.new) w t }
+    ensures elsewhere { (f : Still × P.Fixed) (m : P.State)
+        → ShowsBy (still memory.old.tid (P.owners memory.old.pages) memory.old.space.now.entries)
+        (P.fixed memory.old.pages) (P.state memory.old.pages) f m
+        → AreElsewhere (run_answers f.0 (P.places f.1)) stops.now (budget.old - budget.new)
+        regs.old m }
 {
     let mut pc = regs.pc();
     let mut left = *budget;
@@ -161,19 +161,14 @@ pub(crate) fn run<P: Pages>(
 ) -> Option<Reason>
     requires known { memory.old.compared ≡ replicate 1024 false }
     requires floor { floor ≤ budget.old }
-    ensures runs { (w : World)
-        → IsRunOf w (store_of (P.owners memory.old.pages) (P.pages memory.old.pages))
-        memory.old.space.now.entries memory.old.tid regs.old budget.old
-        → after_steps (budget.old - budget.new) w memory.old.tid
-        ≡ Some (run_to w memory.old.tid (P.pages memory.new.pages) regs.new budget.new) }
-    ensures stop { MatchOption result (budget.new ≡ floor)
-        (λ reason. (0 < budget.new)
-        × ((w : World)
-        → IsRunOf w
-        (store_of (P.owners memory.old.pages) (P.pages memory.old.pages))
-        memory.old.space.now.entries memory.old.tid regs.old budget.old
-        → step (run_to w memory.old.tid (P.pages memory.new.pages) regs.new budget.new)
-        memory.old.tid ≡ Err reason)) }
+    ensures runs { GoesTo (run_answers
+        (still memory.old.tid (P.owners memory.old.pages) memory.old.space.now.entries)
+        (P.places (P.fixed memory.old.pages))) (budget.old - budget.new) regs.old
+        (P.state memory.old.pages) regs.new (P.state memory.new.pages) }
+    ensures stop { MatchOption result (budget.new ≡ floor) (λ reason. (0 < budget.new)
+        × (one_in (run_answers
+        (still memory.old.tid (P.owners memory.old.pages) memory.old.space.now.entries)
+        (P.places (P.fixed memory.old.pages))) regs.new (P.state memory.new.pages) ≡ Err reason)) }
     ensures within { budget.new ≤ budget.old }
     ensures owners { P.owners memory.new.pages ≡ P.owners memory.old.pages }
     ensures fixed { P.fixed memory.new.pages ≡ P.fixed memory.old.pages }
@@ -194,24 +189,19 @@ fn run_up_to<P: Pages>(
     stops: &[u32],
 ) -> Option<Reason>
     requires known { memory.old.compared ≡ replicate 1024 false }
-    ensures runs { (w : World)
-        → IsRunOf w (store_of (P.owners memory.old.pages) (P.pages memory.old.pages))
-        memory.old.space.now.entries memory.old.tid regs.old budget.old
-        → after_steps (budget.old - budget.new) w memory.old.tid
-        ≡ Some (run_to w memory.old.tid (P.pages memory.new.pages) regs.new budget.new) }
+    ensures runs { GoesTo (run_answers
+        (still memory.old.tid (P.owners memory.old.pages) memory.old.space.now.entries)
+        (P.places (P.fixed memory.old.pages))) (budget.old - budget.new) regs.old
+        (P.state memory.old.pages) regs.new (P.state memory.new.pages) }
     ensures stop { MatchOption result
-        ((budget.new ≡ 0) ⊎ (is_stop_at stops.now regs.new.pc ≡ true))
-        (λ reason. (0 < budget.new)
-        × ((w : World)
-        → IsRunOf w
-        (store_of (P.owners memory.old.pages) (P.pages memory.old.pages))
-        memory.old.space.now.entries memory.old.tid regs.old budget.old
-        → step (run_to w memory.old.tid (P.pages memory.new.pages) regs.new budget.new)
-        memory.old.tid ≡ Err reason)) }
-    ensures elsewhere { (w : World)
-        → IsRunOf w (store_of (P.owners memory.old.pages) (P.pages memory.old.pages))
-        memory.old.space.now.entries memory.old.tid regs.old budget.old
-        → StartsElsewhere stops.now (budget.old - budget.new) w memory.old.tid }
+        ((budget.new ≡ 0) ⊎ (is_stop_at stops.now regs.new.pc ≡ true)) (λ reason. (0 < budget.new)
+        × (one_in (run_answers
+        (still memory.old.tid (P.owners memory.old.pages) memory.old.space.now.entries)
+        (P.places (P.fixed memory.old.pages))) regs.new (P.state memory.new.pages) ≡ Err reason)) }
+    ensures elsewhere { AreElsewhere (run_answers
+        (still memory.old.tid (P.owners memory.old.pages) memory.old.space.now.entries)
+        (P.places (P.fixed memory.old.pages))) stops.now (budget.old - budget.new) regs.old
+        (P.state memory.old.pages) }
     ensures within { budget.new ≤ budget.old }
     ensures owners { P.owners memory.new.pages ≡ P.owners memory.old.pages }
     ensures fixed { P.fixed memory.new.pages ≡ P.fixed memory.old.pages }

@@ -1,17 +1,16 @@
 // One instruction, with pc beside the registers.
 ghost use Rattle.std.specs.Prelude.{◌≡◌, ◌<◌, ◌⊎◌, ◌%◌, ℕ, List, true, unwrap_or};
-ghost use Rattle.dos_world.specs.World.{World, Registers as registers_of_thread, with_pc};
+ghost use Rattle.dos_world.specs.World.{Registers as registers_of_thread, with_pc};
 ghost use Rattle.dos_world.specs.declared.Reason.{Reason as reason};
 ghost use Rattle.rv_exec.specs.Arrivals.{arrived, went};
 ghost use Rattle.rv_exec.specs.Follows.{Follows};
-ghost use Rattle.rv_exec.specs.Runs.{Runs, Steps};
 ghost use Rattle.flat_machine.specs.Over.{one_in};
-ghost use Rattle.flat_machine.specs.Step.{step};
 ghost use Rattle.code_pages.specs.Lines.{IsLiveAt, bytes_of_pages};
 ghost use Rattle.quantum_run.specs.Finding.{page_start};
 ghost use Rattle.quantum_run.specs.Flying.{IsLineOf, went_on};
 ghost use Rattle.quantum_run.specs.Knowing.{AreRight, IsLineFor};
-ghost use Rattle.quantum_run.specs.Showing.{ShowsKnown, Still, still};
+ghost use Rattle.quantum_run.specs.Answering.{Still, run_answers, still};
+ghost use Rattle.quantum_run.specs.Showing.{ShowsKnown};
 
 use crate::lines::line_in;
 use crate::pages::Pages;
@@ -62,14 +61,14 @@ pub fn learns<P: Pages>(
     at: usize,
     is_wanted: bool,
 ) -> bool
-    ensures shows { (f : Still × P.Fixed) (t : ℕ) (w : World) → ShowsKnown
+    ensures shows { (f : Still × P.Fixed) (m : P.State) → ShowsKnown
         (still memory.old.tid (P.owners memory.old.pages) memory.old.space.now.entries)
-        (P.fixed memory.old.pages) (P.pages memory.old.pages) memory.old.shown memory.old.compared
-        (f, bytes_of_pages code.old) t w
+        (P.fixed memory.old.pages) (P.state memory.old.pages) (P.pages memory.old.pages)
+        memory.old.shown memory.old.compared (f, bytes_of_pages code.old) m
         → ShowsKnown
         (still memory.new.tid (P.owners memory.new.pages) memory.new.space.now.entries)
-        (P.fixed memory.new.pages) (P.pages memory.new.pages) memory.new.shown memory.new.compared
-        (f, bytes_of_pages code.new) t w }
+        (P.fixed memory.new.pages) (P.state memory.new.pages) (P.pages memory.new.pages)
+        memory.new.shown memory.new.compared (f, bytes_of_pages code.new) m }
     ensures wanted { result ≡ true → is_wanted ≡ true }
     ensures known { 0 < at → (memory.new ≡ memory.old) × (code.new ≡ code.old) }
 {
@@ -99,8 +98,7 @@ fn line_here<P: Pages>(
         (bytes_of_pages code.new) }
     ensures still { still memory.new.tid (P.owners memory.new.pages) memory.new.space.now.entries
         ≡ still memory.old.tid (P.owners memory.old.pages) memory.old.space.now.entries }
-    ensures fixed { P.fixed memory.new.pages ≡ P.fixed memory.old.pages }
-    ensures pages { P.pages memory.new.pages ≡ P.pages memory.old.pages }
+    ensures pages { memory.new.pages ≡ memory.old.pages }
 {
     if at == 0 {
         return memory.line_to_perform(code, pc);
@@ -124,16 +122,16 @@ pub fn slowly<P: Pages>(
 ) -> Option<u32>
     requires { (at ≡ 0) ⊎ IsLineOf memory.old.shown memory.old.compared code.old code.old.lines
         (page_start pc) pc at }
-    ensures { (f : Still × P.Fixed) (t : ℕ) (w : World) (budget : ℕ)
-        → Runs (ShowsKnown
+    ensures { (f : Still × P.Fixed) (m : P.State) → ShowsKnown
         (still memory.old.tid (P.owners memory.old.pages) memory.old.space.now.entries)
-        (P.fixed memory.old.pages) (P.pages memory.old.pages) memory.old.shown memory.old.compared
-        (f, bytes_of_pages code.old) t) w t (with_pc regs.old pc) budget
-        → Steps (ShowsKnown
+        (P.fixed memory.old.pages) (P.state memory.old.pages) (P.pages memory.old.pages)
+        memory.old.shown memory.old.compared (f, bytes_of_pages code.old) m
+        → Follows (ShowsKnown
         (still memory.new.tid (P.owners memory.new.pages) memory.new.space.now.entries)
-        (P.fixed memory.new.pages) (P.pages memory.new.pages) memory.new.shown memory.new.compared
-        (f, bytes_of_pages code.new) t) w t (with_pc regs.new (unwrap_or result pc)) budget
-        (went_on result why.new) (step w t) }
+        (P.fixed memory.new.pages) (P.state memory.new.pages) (P.pages memory.new.pages)
+        memory.new.shown memory.new.compared (f, bytes_of_pages code.new)) m (with_pc regs.old pc)
+        (with_pc regs.new (unwrap_or result pc)) (went_on result why.new)
+        (one_in (run_answers f.0 (P.places f.1)) (with_pc regs.old pc) m) }
 {
     let at = line_here(memory, code, pc, at);
     if at == 0 {

@@ -1,15 +1,14 @@
 // The memory of one thread over any pages.
 ghost use Rattle.std.specs.Prelude.{◌≡◌, ◌≢◌, ◌⊎◌, ◌+◌, ◌/◌, ◌%◌, ◌^◌, ◌<◌, ◌≤◌, ℕ, List, Option};
-ghost use Rattle.std.specs.Prelude.{Ok};
-ghost use Rattle.std.specs.Prelude.{Err, IfSome, false, replicate, true};
+ghost use Rattle.std.specs.Prelude.{Some, None, Ok, Err, IfSome, false, replicate, true};
 ghost use Rattle.std.specs.Option.{ok_or, option_map};
-ghost use Rattle.dos_world.specs.Reach.{bytes_of, width, written};
-ghost use Rattle.dos_world.specs.World.{World, look};
+ghost use Rattle.dos_world.specs.Reach.{bytes_of, width};
+ghost use Rattle.dos_world.specs.World.{look};
 ghost use Rattle.dos_world.specs.declared.Access.TheVariants.{Fetch, Load, Store};
 ghost use Rattle.page_store.specs.Store.{joined, number_at};
 ghost use Rattle.code_pages.specs.Lines.{IsLiveAt, bytes_of_pages};
-ghost use Rattle.flat_machine.specs.Step.{load_at, store_at};
-ghost use Rattle.quantum_run.specs.Showing.{ShowsKnown, Still, StoresOrNot, still};
+ghost use Rattle.quantum_run.specs.Answering.{Still, still};
+ghost use Rattle.quantum_run.specs.Showing.{ShowsKnown, StoresOrNot, answers_of};
 ghost use Rattle.quantum_run.specs.Finding.{AreFramesOf, IsFrameOf, IsWriting, flat_place};
 ghost use Rattle.quantum_run.specs.Finding.{frame_for, frame_for_size, frame_of, page_start};
 ghost use Rattle.quantum_run.specs.Knowing.{SlotsAreMarked, AreRight, FetchesAreApart, IsCompared};
@@ -97,8 +96,7 @@ impl<'a, P: Pages> Running<'a, P> {
         ensures none { ok_or result self.new.refused ≡ Err reason }
         ensures still { still self.new.tid (P.owners self.new.pages) self.new.space.now.entries
             ≡ still self.old.tid (P.owners self.old.pages) self.old.space.now.entries }
-        ensures fixed { P.fixed self.new.pages ≡ P.fixed self.old.pages }
-        ensures pages { P.pages self.new.pages ≡ P.pages self.old.pages }
+        ensures pages { self.new.pages ≡ self.old.pages }
         ensures same { (self.new.shown ≡ self.old.shown) × (self.new.compared ≡ self.old.compared) }
     {
         self.refused = reason;
@@ -111,8 +109,7 @@ impl<'a, P: Pages> Running<'a, P> {
         ensures entry { result ≡ look self.old.space.now.entries (address / 4096) }
         ensures still { still self.new.tid (P.owners self.new.pages) self.new.space.now.entries
             ≡ still self.old.tid (P.owners self.old.pages) self.old.space.now.entries }
-        ensures fixed { P.fixed self.new.pages ≡ P.fixed self.old.pages }
-        ensures pages { P.pages self.new.pages ≡ P.pages self.old.pages }
+        ensures pages { self.new.pages ≡ self.old.pages }
         ensures same { (self.new.shown ≡ self.old.shown) × (self.new.compared ≡ self.old.compared) }
     {
         let place = slot_place(address);
@@ -129,8 +126,7 @@ impl<'a, P: Pages> Running<'a, P> {
             (λ entry. look self.old.space.now.entries (address / 4096) ≡ Some entry) }
         ensures still { still self.new.tid (P.owners self.new.pages) self.new.space.now.entries
             ≡ still self.old.tid (P.owners self.old.pages) self.old.space.now.entries }
-        ensures fixed { P.fixed self.new.pages ≡ P.fixed self.old.pages }
-        ensures pages { P.pages self.new.pages ≡ P.pages self.old.pages }
+        ensures pages { self.new.pages ≡ self.old.pages }
         ensures same { (self.new.shown ≡ self.old.shown) × (self.new.compared ≡ self.old.compared) }
     {
         let Some(entry) = self.entry_of(address) else {
@@ -156,8 +152,7 @@ impl<'a, P: Pages> Running<'a, P> {
         ensures home { IfSome result (λ frame. IsPageHere (P.pages self.new.pages) frame) }
         ensures still { still self.new.tid (P.owners self.new.pages) self.new.space.now.entries
             ≡ still self.old.tid (P.owners self.old.pages) self.old.space.now.entries }
-        ensures fixed { P.fixed self.new.pages ≡ P.fixed self.old.pages }
-        ensures pages { P.pages self.new.pages ≡ P.pages self.old.pages }
+        ensures pages { self.new.pages ≡ self.old.pages }
         ensures same { (self.new.shown ≡ self.old.shown) × (self.new.compared ≡ self.old.compared) }
     {
         if !size.is_aligned(address) {
@@ -178,8 +173,7 @@ impl<'a, P: Pages> Running<'a, P> {
             Load address ≡ Ok frame }
         ensures still { still self.new.tid (P.owners self.new.pages) self.new.space.now.entries
             ≡ still self.old.tid (P.owners self.old.pages) self.old.space.now.entries }
-        ensures fixed { P.fixed self.new.pages ≡ P.fixed self.old.pages }
-        ensures pages { P.pages self.new.pages ≡ P.pages self.old.pages }
+        ensures pages { self.new.pages ≡ self.old.pages }
         ensures same { (self.new.shown ≡ self.old.shown) × (self.new.compared ≡ self.old.compared)
             × (self.new.refused ≡ self.old.refused) }
     {
@@ -193,8 +187,7 @@ impl<'a, P: Pages> Running<'a, P> {
         requires { look self.old.space.now.entries (address / 4096) ≡ Some entry }
         ensures still { still self.new.tid (P.owners self.new.pages) self.new.space.now.entries
             ≡ still self.old.tid (P.owners self.old.pages) self.old.space.now.entries }
-        ensures fixed { P.fixed self.new.pages ≡ P.fixed self.old.pages }
-        ensures pages { P.pages self.new.pages ≡ P.pages self.old.pages }
+        ensures pages { self.new.pages ≡ self.old.pages }
         ensures same { (self.new.shown ≡ self.old.shown) × (self.new.compared ≡ self.old.compared)
             × (self.new.refused ≡ self.old.refused) }
     {
@@ -224,8 +217,7 @@ impl<'a, P: Pages> Running<'a, P> {
             self.old.space.now.entries access address ≡ Ok frame }
         ensures still { still self.new.tid (P.owners self.new.pages) self.new.space.now.entries
             ≡ still self.old.tid (P.owners self.old.pages) self.old.space.now.entries }
-        ensures fixed { P.fixed self.new.pages ≡ P.fixed self.old.pages }
-        ensures pages { P.pages self.new.pages ≡ P.pages self.old.pages }
+        ensures pages { self.new.pages ≡ self.old.pages }
         ensures same { (self.new.shown ≡ self.old.shown) × (self.new.compared ≡ self.old.compared)
             × (self.new.refused ≡ self.old.refused) }
     {
@@ -244,8 +236,7 @@ impl<'a, P: Pages> Running<'a, P> {
         ensures home { IfSome result (λ frame. IsPageHere (P.pages self.new.pages) frame) }
         ensures still { still self.new.tid (P.owners self.new.pages) self.new.space.now.entries
             ≡ still self.old.tid (P.owners self.old.pages) self.old.space.now.entries }
-        ensures fixed { P.fixed self.new.pages ≡ P.fixed self.old.pages }
-        ensures pages { P.pages self.new.pages ≡ P.pages self.old.pages }
+        ensures pages { self.new.pages ≡ self.old.pages }
         ensures same { (self.new.shown ≡ self.old.shown) × (self.new.compared ≡ self.old.compared) }
     {
         let slot = self.loaded[slot_place(address)];
@@ -275,8 +266,7 @@ impl<'a, P: Pages> Running<'a, P> {
             self.new.shown self.new.compared (P.pages self.new.pages) }
         ensures still { still self.new.tid (P.owners self.new.pages) self.new.space.now.entries
             ≡ still self.old.tid (P.owners self.old.pages) self.old.space.now.entries }
-        ensures fixed { P.fixed self.new.pages ≡ P.fixed self.old.pages }
-        ensures pages { P.pages self.new.pages ≡ P.pages self.old.pages }
+        ensures pages { self.new.pages ≡ self.old.pages }
     {
         let slot = slot_place(address);
         forget_frame(&mut self.stored, &self.stored_marks, frame);
@@ -296,8 +286,7 @@ impl<'a, P: Pages> Running<'a, P> {
             self.new.shown self.new.compared (P.pages self.new.pages) }
         ensures still { still self.new.tid (P.owners self.new.pages) self.new.space.now.entries
             ≡ still self.old.tid (P.owners self.old.pages) self.old.space.now.entries }
-        ensures fixed { P.fixed self.new.pages ≡ P.fixed self.old.pages }
-        ensures pages { P.pages self.new.pages ≡ P.pages self.old.pages }
+        ensures pages { self.new.pages ≡ self.old.pages }
     {
         if self.shown[slot_place(address)].start == start_of(address) {
             return true;
@@ -312,7 +301,8 @@ impl<'a, P: Pages> Running<'a, P> {
     }
 
     /// Whether the block of this address has been compared from now on, whose page a fetch has
-    /// found; false where there is no memory for what is known of it.
+    /// found; false where there is no memory for what is known of it, or the page isn't in one
+    /// piece.
     #[inline]
     fn compare(&mut self, code: &mut CodePages, address: u32) -> bool
         requires found { (slot_of self.old.shown address).start ≡ page_start address }
@@ -324,15 +314,16 @@ impl<'a, P: Pages> Running<'a, P> {
             (bytes_of_pages code.new) }
         ensures still { still self.new.tid (P.owners self.new.pages) self.new.space.now.entries
             ≡ still self.old.tid (P.owners self.old.pages) self.old.space.now.entries }
-        ensures fixed { P.fixed self.new.pages ≡ P.fixed self.old.pages }
-        ensures pages { P.pages self.new.pages ≡ P.pages self.old.pages }
+        ensures pages { self.new.pages ≡ self.old.pages }
     {
         let slot = slot_place(address);
         let block = (address % 4096 / 256) as usize;
         if self.compared[16 * slot + block] {
             return true;
         }
-        let page = self.pages.page(self.shown[slot].frame);
+        let Some(page) = self.pages.page(self.shown[slot].frame) else {
+            return false;
+        };
         if !code.check(code_place(address), block, page.bytes()) {
             return false;
         }
@@ -355,8 +346,7 @@ impl<'a, P: Pages> Running<'a, P> {
             (bytes_of_pages code.new) }
         ensures still { still self.new.tid (P.owners self.new.pages) self.new.space.now.entries
             ≡ still self.old.tid (P.owners self.old.pages) self.old.space.now.entries }
-        ensures fixed { P.fixed self.new.pages ≡ P.fixed self.old.pages }
-        ensures pages { P.pages self.new.pages ≡ P.pages self.old.pages }
+        ensures pages { self.new.pages ≡ self.old.pages }
     {
         if address % 2 != 0 {
             return 0;
@@ -374,10 +364,11 @@ impl<'a, P: Pages> Running<'a, P> {
     #[inline(always)]
     pub fn quick_load(&self, address: u32, size: Size) -> Option<u32>
         ensures number { IfSome result (λ number.
-            (fixed : (Still × P.Fixed) × List (Option (List ℕ))) (t : ℕ) (w : World) → ShowsKnown
+            (fixed : (Still × P.Fixed) × List (Option (List ℕ))) (m : P.State) → ShowsKnown
             (still self.now.tid (P.owners self.now.pages) self.now.space.now.entries)
-            (P.fixed self.now.pages) (P.pages self.now.pages) self.now.shown self.now.compared
-            fixed t w → load_at w t address size ≡ Ok number) }
+            (P.fixed self.now.pages) (P.state self.now.pages) (P.pages self.now.pages)
+            self.now.shown self.now.compared fixed m
+            → (answers_of P.places fixed).load m address size ≡ Ok number) }
     {
         let slot = self.loaded[slot_place(address)];
         if slot.start != aligned_start(address, size) {
@@ -387,25 +378,24 @@ impl<'a, P: Pages> Running<'a, P> {
     }
 
     /// Whether the low bytes of a value are stored at an address, where a store finds its page
-    /// without a search and it is aligned. Nothing is changed where they aren't.
+    /// without a search, it is aligned and there is room. Nothing is changed where they aren't.
     #[inline(always)]
     pub fn quick_store(&mut self, address: u32, size: Size, value: u32) -> bool
-        ensures stored { (fixed : (Still × P.Fixed) × List (Option (List ℕ))) (t : ℕ) (w : World)
+        ensures stored { (fixed : (Still × P.Fixed) × List (Option (List ℕ))) (m : P.State)
             → ShowsKnown (still self.old.tid (P.owners self.old.pages) self.old.space.now.entries)
-            (P.fixed self.old.pages) (P.pages self.old.pages) self.old.shown self.old.compared
-            fixed t w
-            → StoresOrNot result (store_at w t address size value) w (ShowsKnown
-            (still self.new.tid (P.owners self.new.pages) self.new.space.now.entries)
-            (P.fixed self.new.pages) (P.pages self.new.pages) self.new.shown self.new.compared
-            fixed t) }
+            (P.fixed self.old.pages) (P.state self.old.pages) (P.pages self.old.pages)
+            self.old.shown self.old.compared fixed m
+            → StoresOrNot result ((answers_of P.places fixed).store m address size value) m
+            (ShowsKnown (still self.new.tid (P.owners self.new.pages) self.new.space.now.entries)
+            (P.fixed self.new.pages) (P.state self.new.pages) (P.pages self.new.pages)
+            self.new.shown self.new.compared fixed) }
         ensures same { (self.new.shown ≡ self.old.shown) × (self.new.compared ≡ self.old.compared) }
     {
         let slot = self.stored[slot_place(address)];
         if slot.start != aligned_start(address, size) {
             return false;
         }
-        self.write(slot.frame, address, size, value);
-        true
+        self.write(slot.frame, address, size, value)
     }
 
     /// No fetch has found this frame any more; whether one had. Mostly it was that of this address.
@@ -416,8 +406,7 @@ impl<'a, P: Pages> Running<'a, P> {
             self.new.shown self.new.compared (P.pages self.new.pages) }
         ensures still { still self.new.tid (P.owners self.new.pages) self.new.space.now.entries
             ≡ still self.old.tid (P.owners self.old.pages) self.old.space.now.entries }
-        ensures fixed { P.fixed self.new.pages ≡ P.fixed self.old.pages }
-        ensures pages { P.pages self.new.pages ≡ P.pages self.old.pages }
+        ensures pages { self.new.pages ≡ self.old.pages }
         ensures same { (self.new.refused ≡ self.old.refused)
             × (self.new.stored_marks ≡ self.old.stored_marks) }
     {
@@ -438,8 +427,7 @@ impl<'a, P: Pages> Running<'a, P> {
             self.new.shown self.new.compared (P.pages self.new.pages) }
         ensures still { still self.new.tid (P.owners self.new.pages) self.new.space.now.entries
             ≡ still self.old.tid (P.owners self.old.pages) self.old.space.now.entries }
-        ensures fixed { P.fixed self.new.pages ≡ P.fixed self.old.pages }
-        ensures pages { P.pages self.new.pages ≡ P.pages self.old.pages }
+        ensures pages { self.new.pages ≡ self.old.pages }
         ensures refused { self.new.refused ≡ self.old.refused }
     {
         if self.hide(address, frame) {
@@ -465,8 +453,7 @@ impl<'a, P: Pages> Running<'a, P> {
             self.new.shown self.new.compared (P.pages self.new.pages) }
         ensures still { still self.new.tid (P.owners self.new.pages) self.new.space.now.entries
             ≡ still self.old.tid (P.owners self.old.pages) self.old.space.now.entries }
-        ensures fixed { P.fixed self.new.pages ≡ P.fixed self.old.pages }
-        ensures pages { P.pages self.new.pages ≡ P.pages self.old.pages }
+        ensures pages { self.new.pages ≡ self.old.pages }
     {
         if !size.is_aligned(address) {
             return self.refuse(Reason::Fault(7));
@@ -495,8 +482,7 @@ impl<'a, P: Pages> Running<'a, P> {
             self.new.shown self.new.compared (P.pages self.new.pages) }
         ensures still { still self.new.tid (P.owners self.new.pages) self.new.space.now.entries
             ≡ still self.old.tid (P.owners self.old.pages) self.old.space.now.entries }
-        ensures fixed { P.fixed self.new.pages ≡ P.fixed self.old.pages }
-        ensures pages { P.pages self.new.pages ≡ P.pages self.old.pages }
+        ensures pages { self.new.pages ≡ self.old.pages }
     {
         let slot = self.stored[slot_place(address)];
         if slot.start == aligned_start(address, size) {
@@ -505,19 +491,19 @@ impl<'a, P: Pages> Running<'a, P> {
         self.find_to_write(address, size, access)
     }
 
-    /// The number at an address whose page is this frame's, where it lies in that page.
+    /// The number at an aligned address whose page is this frame's.
     #[inline(always)]
     fn read(&self, frame: u32, address: u32, size: Size) -> u32
         requires home { IsPageHere (P.pages self.now.pages) frame }
-        requires within { address % 4096 + width size ≤ 4096 }
+        requires aligned { address % width size ≡ 0 }
         ensures value { result ≡ number_at (joined (P.pages self.now.pages))
             (flat_place frame address) size }
         ensures range { result < 256 ^ width size }
     {
-        self.pages.page(frame).read(address % 4096, size)
+        self.pages.read(frame, address % 4096, size)
     }
 
-    /// The number at an aligned address whose page is this frame's.
+    /// The same, spelled so that it is one machine load.
     #[inline(always)]
     fn read_aligned(&self, frame: u32, address: u32, size: Size) -> u32
         requires home { IsPageHere (P.pages self.now.pages) frame }
@@ -527,17 +513,24 @@ impl<'a, P: Pages> Running<'a, P> {
         ensures range { result < 256 ^ width size }
     {
         let offset = aligned_offset(address, size);
-        self.pages.page(frame).read(offset, size)
+        self.pages.read(frame, offset, size)
     }
 
-    /// Writes the low bytes of a number at an aligned address whose page is this frame's.
+    /// Writes the low bytes of a number at an aligned address whose page is this frame's; false
+    /// where there is no room for it, and nothing is changed then.
     #[inline(always)]
-    fn write(&mut self, frame: u32, address: u32, size: Size, value: u32)
+    fn write(&mut self, frame: u32, address: u32, size: Size, value: u32) -> bool
         requires own { P.is_own self.old.pages frame ≡ true }
         requires free { IsNoCode self.old.shown frame }
         requires aligned { address % width size ≡ 0 }
-        ensures bytes { joined (P.pages self.new.pages) ≡ written (joined (P.pages self.old.pages))
-            (flat_place frame address) (bytes_of (width size) value) }
+        ensures stored { result ≡ true
+            → (P.places (P.fixed self.old.pages)).write (P.state self.old.pages)
+            (flat_place frame address) (bytes_of (width size) value)
+            ≡ Some (P.state self.new.pages) }
+        ensures full { result ≡ false
+            → (P.places (P.fixed self.old.pages)).write (P.state self.old.pages)
+            (flat_place frame address) (bytes_of (width size) value) ≡ None }
+        ensures state { result ≡ false → P.state self.new.pages ≡ P.state self.old.pages }
         ensures right { KeepsRight self.old.shown self.old.compared (P.pages self.old.pages)
             self.new.shown self.new.compared (P.pages self.new.pages) }
         ensures still { still self.new.tid (P.owners self.new.pages) self.new.space.now.entries
@@ -545,24 +538,21 @@ impl<'a, P: Pages> Running<'a, P> {
         ensures fixed { P.fixed self.new.pages ≡ P.fixed self.old.pages }
         ensures same { (self.new.shown ≡ self.old.shown) × (self.new.compared ≡ self.old.compared) }
     {
-        self.pages.write(frame, address % 4096, size, value);
+        self.pages.write(frame, address % 4096, size, value)
     }
 }
 
 impl<'a, P: Pages> Memory for Running<'a, P> {
-    ghost use Rattle.std.specs.Prelude.{List};
-    ghost use Rattle.std.specs.Prelude.{Option, ℕ};
-    ghost use Rattle.flat_machine.specs.Over.{world_answers};
+    ghost use Rattle.std.specs.Prelude.{List, Option, ℕ};
 
-    // beside what stands still, whose memory it is in the flat world
-    ghost Fixed = { ((Still × P.Fixed) × List (Option (List ℕ))) × ℕ };
+    ghost Fixed = { (Still × P.Fixed) × List (Option (List ℕ)) };
 
-    ghost State = { World };
+    ghost State = { P.State };
 
-    ghost answers = { λ f. world_answers f.1 };
+    ghost answers = { answers_of P.places };
 
-    ghost shows = { λ m f. ShowsKnown (still m.tid (P.owners m.pages) m.space.now.entries)
-        (P.fixed m.pages) (P.pages m.pages) m.shown m.compared f.0 f.1 };
+    ghost shows = { λ m. ShowsKnown (still m.tid (P.owners m.pages) m.space.now.entries)
+        (P.fixed m.pages) (P.state m.pages) (P.pages m.pages) m.shown m.compared };
 
     fn fetch_half(&mut self, address: u32) -> Result<u16, Reason> {
         if !Size::Half.is_aligned(address) {
@@ -586,8 +576,13 @@ impl<'a, P: Pages> Memory for Running<'a, P> {
     fn store(&mut self, address: u32, size: Size, value: u32) -> Result<(), Reason> {
         match self.frame_to_write(address, size, Access::Store) {
             Some(frame) => {
-                self.write(frame, address, size, value);
-                Ok(())
+                if self.write(frame, address, size, value) {
+                    return Ok(());
+                }
+                Err(Reason::Page {
+                    address,
+                    access: Access::Store,
+                })
             }
             None => Err(self.refused),
         }
@@ -596,7 +591,15 @@ impl<'a, P: Pages> Memory for Running<'a, P> {
     #[inline(always)]
     fn claim(&mut self, address: u32) -> Result<u32, Reason> {
         match self.frame_to_write(address, Size::Word, Access::Claim) {
-            Some(frame) => Ok(self.read_aligned(frame, address, Size::Word)),
+            Some(frame) => {
+                if self.pages.claims() {
+                    return Ok(self.read_aligned(frame, address, Size::Word));
+                }
+                Err(Reason::Page {
+                    address,
+                    access: Access::Claim,
+                })
+            }
             None => Err(self.refused),
         }
     }

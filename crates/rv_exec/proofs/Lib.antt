@@ -6,4 +6,3 @@ pub mod ByForm
 pub mod ByOp
 pub mod PcBeside
 pub mod Stored
-pub mod Stepping

@@ -1,26 +1,27 @@
-use Rattle.std.proofs.Common.{ℕ, ◌+◌, ◌-◌, ◌≤◌}
-use Rattle.dos_world.specs.World.{World, with_pc}
-use Rattle.rv_exec.specs.Runs.{Runs}
+use Rattle.std.proofs.Common.{◌-◌, ◌≤◌}
+use Rattle.dos_world.specs.World.{with_pc}
 use Rattle.code_pages.specs.Lines.{bytes_of_pages}
-use Rattle.quantum_run.specs.ThreadRuns.{Reaches, StartsElsewhere}
-use Rattle.quantum_run.specs.Showing.{ShowsKnown, Still, still}
+use Rattle.quantum_run.specs.ThreadRuns.{AreElsewhere, Reaches}
+use Rattle.quantum_run.specs.Answering.{Still, run_answers, still}
+use Rattle.quantum_run.specs.Showing.{ShowsKnown}
 use Rattle.quantum_run.proofs.flight.fly_between.Given as goal
 
 abbrev pub invariant-loop-left : goal.invariant-loop-left
 invariant-loop-left g l =
     (l.left ≤ l.budget)
-    × ((floor : ℕ) (f : Still × g.P.Pages.Fixed) (t : ℕ) (w : World)
-    → Runs (ShowsKnown
+    × ((f : Still × g.P.Pages.Fixed) (u : g.P.Pages.State)
+    → ShowsKnown
     (still l.fn.memory.tid (g.P.Pages.owners l.fn.memory.pages) l.fn.memory.space.now.entries)
-    (g.P.Pages.fixed l.fn.memory.pages) (g.P.Pages.pages l.fn.memory.pages) l.fn.memory.shown
-    l.fn.memory.compared (f, bytes_of_pages l.code) t) w t (with_pc l.fn.regs l.fn.pc)
-    (floor + l.budget)
-    → Reaches (ShowsKnown
+    (g.P.Pages.fixed l.fn.memory.pages) (g.P.Pages.state l.fn.memory.pages)
+    (g.P.Pages.pages l.fn.memory.pages) l.fn.memory.shown l.fn.memory.compared
+    (f, bytes_of_pages l.code) u
+    → Reaches (run_answers f.0 (g.P.Pages.places f.1)) (ShowsKnown
     (still l.memory.tid (g.P.Pages.owners l.memory.pages) l.memory.space.now.entries)
-    (g.P.Pages.fixed l.memory.pages) (g.P.Pages.pages l.memory.pages) l.memory.shown
-    l.memory.compared (f, bytes_of_pages l.code) t) w t (with_pc l.regs l.pc)
-    (floor + l.budget) (floor + l.left)
-    × StartsElsewhere l.stops (floor + l.budget - (floor + l.left)) w t)
+    (g.P.Pages.fixed l.memory.pages) (g.P.Pages.state l.memory.pages)
+    (g.P.Pages.pages l.memory.pages) l.memory.shown l.memory.compared (f, bytes_of_pages l.code))
+    (with_pc l.fn.regs l.fn.pc) u (with_pc l.regs l.pc) (l.budget - l.left)
+    × AreElsewhere (run_answers f.0 (g.P.Pages.places f.1)) l.stops (l.budget - l.left)
+    (with_pc l.fn.regs l.fn.pc) u)
 
 abbrev pub decreases-loop-left : goal.decreases-loop-left
 decreases-loop-left g l = l.left

@@ -1,14 +1,15 @@
 use Rattle.std.proofs.Common.{ℕ, ◌+◌, ◌≡◌, ◌/◌, ◌%◌, ◌*◌, ◌^◌, ◌∙◌, List, Option, ap, arith, refl}
 use Rattle.std.proofs.Common.{Bool, inr, length, subst, sym, ◌-◌, ◌<◌, ◌≤◌, ◌⊎◌}
-use Rattle.dos_world.specs.World.{World, Registers, with_pc}
+use Rattle.dos_world.specs.World.{Registers, with_pc}
 use Rattle.code_pages.specs.Lines.{AreRuns, Known, bytes_of_pages}
 use Rattle.code_pages.specs.declared.line.Line.{Line}
 use Rattle.quantum_run.specs.Flying.{IsLineOf}
 use Rattle.quantum_run.specs.Knowing.{slot_of}
-use Rattle.quantum_run.specs.Showing.{ShowsKnown, Still, still}
-use Rattle.rv_exec.specs.Runs.{Runs}
-use Rattle.quantum_run.specs.ThreadRuns.{AreOutside, Reaches, ReachesIn, StartsElsewhere}
-use Rattle.quantum_run.proofs.Elsewhere.{none-yet, then-elsewhere}
+use Rattle.flat_machine.specs.Over.{MemoryAnswers}
+use Rattle.quantum_run.specs.Answering.{Still, run_answers, still}
+use Rattle.quantum_run.specs.Showing.{ShowsKnown}
+use Rattle.quantum_run.specs.ThreadRuns.{AreElsewhere, AreOutside, Reaches, ReachesIn}
+use Rattle.quantum_run.proofs.Elsewhere.{none-made, then-elsewhere}
 use Rattle.quantum_run.specs.declared.slot.Slot.{Slot}
 use Rattle.quantum_run.specs.declared.thread_memory.Running.{Running}
 use Rattle.quantum_run.specs.Knowing.{empty_slot}
@@ -29,43 +30,51 @@ landed-in shown compared known lines base address at are landed some =
 
 -- what a memory shows
 abbrev shown : (g : given.Over) → Running g.row.P.Denot g.P.Pages
-    → (Still × g.P.Pages.Fixed) × List (Option (List ℕ)) → ℕ → World → Type 0
+    → (Still × g.P.Pages.Fixed) × List (Option (List ℕ)) → g.P.Pages.State → Type 0
 shown g m = ShowsKnown (still m.tid (g.P.Pages.owners m.pages) m.space.now.entries)
-    (g.P.Pages.fixed m.pages) (g.P.Pages.pages m.pages) m.shown m.compared
+    (g.P.Pages.fixed m.pages) (g.P.Pages.state m.pages) (g.P.Pages.pages m.pages) m.shown m.compared
+
+-- and what it answers
+abbrev answers : (g : given.Over) → Still × g.P.Pages.Fixed → MemoryAnswers g.P.Pages.State
+answers g f = run_answers f.0 (g.P.Pages.places f.1)
 
 -- what the lines of a run led to, behind what came before
 run-more : (g : given.Over) (before after : Running g.row.P.Denot g.P.Pages) (r r' : Registers)
     (code : Known) (base pc to budget left more : ℕ) → more ≤ left → left ≤ budget
-    → ((floor : ℕ) (f : Still × g.P.Pages.Fixed) (t : ℕ) (w : World)
-    → Runs (shown g before (f, bytes_of_pages code) t) w t (with_pc r pc) (floor + left)
-    → ReachesIn base (shown g after (f, bytes_of_pages code) t) w t (with_pc r' to) (floor + left)
-    (floor + more))
-    → (floor : ℕ) (f : Still × g.P.Pages.Fixed) (t : ℕ) (w : World)
-    → Reaches (shown g before (f, bytes_of_pages code) t) w t (with_pc r pc) (floor + budget)
-    (floor + left) × ((stops : List ℕ) → AreOutside stops base
-    → StartsElsewhere stops (floor + budget - (floor + left)) w t)
-    → ReachesIn base (shown g after (f, bytes_of_pages code) t) w t (with_pc r' to)
-    (floor + budget) (floor + more)
-run-more g before after r r' code base pc to budget left more less within goes floor f t w reached =
+    → ((f : Still × g.P.Pages.Fixed) (u : g.P.Pages.State)
+    → shown g before (f, bytes_of_pages code) u
+    → ReachesIn base (answers g f) (shown g after (f, bytes_of_pages code)) (with_pc r pc) u
+    (with_pc r' to) (left - more))
+    → (f : Still × g.P.Pages.Fixed) (r0 : Registers) (u : g.P.Pages.State)
+    → Reaches (answers g f) (shown g before (f, bytes_of_pages code)) r0 u (with_pc r pc)
+    (budget - left) × ((stops : List ℕ) → AreOutside stops base
+    → AreElsewhere (answers g f) stops (budget - left) r0 u)
+    → ReachesIn base (answers g f) (shown g after (f, bytes_of_pages code)) r0 u (with_pc r' to)
+    (budget - more)
+run-more g before after r r' code base pc to budget left more less within goes f r0 u reached =
+    let count : budget - more ≡ (budget - left) + (left - more) = omega (arith, less, within) in
+    let old = shown g before (f, bytes_of_pages code) in
     record {
       reaches =
-          reaches-then (shown g before (f, bytes_of_pages code) t)
-          (shown g after (f, bytes_of_pages code) t) w t (with_pc r pc) (with_pc r' to)
-          (floor + budget) (floor + left) (floor + more) (omega (arith, less))
-          (omega (arith, within)) (λ u ru. (goes floor f t u ru).reaches) reached.0;
+          reaches-then (answers g f) r0 u old (shown g after (f, bytes_of_pages code))
+          (with_pc r pc)
+          (with_pc r' to) (budget - left) (left - more) (budget - more) count
+          (λ v s. (goes f v s).reaches) reached.0;
       outside = λ stops out.
-          then-elsewhere stops (shown g before (f, bytes_of_pages code) t) w t (with_pc r pc)
-          (floor + budget) (floor + left) (floor + more) (omega (arith, less))
-          (omega (arith, within)) reached.0
-          ((goes floor f t reached.0.now reached.0.runs).outside stops out) (reached.1 stops out);
+          then-elsewhere (answers g f) stops r0 u old (with_pc r pc) (budget - left) (left - more)
+          (budget - more) count reached.0
+          ((goes f reached.0.now reached.0.shown).outside stops out) (reached.1 stops out);
     }
 
 pub returns-then-not-is_shown_at-clause-reaches : goal.returns-then-not-is_shown_at-clause-reaches
-returns-then-not-is_shown_at-clause-reaches g c = λ floor f t w runs. record {
-  reaches =
-      reaches-none _ w t (with_pc c.args.regs.now c.args.pc) (floor + c.args.budget) runs;
-  outside = λ stops out. none-yet stops _ w t (omega arith);
-}
+returns-then-not-is_shown_at-clause-reaches g c = λ f u shows.
+    let begun = with_pc c.args.regs.now c.args.pc in
+    record {
+      reaches = reaches-none (answers g f) begun u _ (c.args.budget - c.args.budget) (omega arith)
+          shows;
+      outside = λ stops out. none-made (answers g f) stops begun u (c.args.budget - c.args.budget)
+          (omega arith);
+    }
 
 pub loop-lines-init : goal.loop-lines-init
 loop-lines-init g c =
@@ -75,12 +84,16 @@ loop-lines-init g c =
       omega arith,
       refl,
       refl,
-      λ floor f t w runs. (
-        subst (λ k. Reaches (shown g c.args.memory.now (f, bytes_of_pages c.args.code.now) t) w t
-            (with_pc c.args.regs.now k) (floor + c.args.budget) (floor + c.args.budget)) here
-            (reaches-none _ w t (with_pc c.args.regs.now c.args.pc) (floor + c.args.budget) runs),
-        λ stops out. none-yet stops _ w t (omega arith),
-      ),
+      λ f u shows.
+          let begun = with_pc c.args.regs.now c.args.pc in (
+            subst (λ k. Reaches (answers g f)
+                (shown g c.args.memory.now (f, bytes_of_pages c.args.code.now)) begun u
+                (with_pc c.args.regs.now k) (c.args.budget - c.args.budget)) here
+                (reaches-none (answers g f) begun u _ (c.args.budget - c.args.budget) (omega arith)
+                shows),
+            λ stops out. none-made (answers g f) stops begun u (c.args.budget - c.args.budget)
+                (omega arith),
+          ),
       omega arith,
       omega (arith, even),
     )
@@ -142,23 +155,23 @@ loop-lines-preserved g c =
       omega (arith, i.0, c.follow-gone.ensures.within),
       c.follow-gone.ensures.same.0 ∙ i.1,
       c.follow-gone.ensures.same.1 ∙ i.2,
-      λ floor f t w runs.
+      λ f u shows.
           let x = run-more g m n c.loop-lines.regs c.follow-gone.new.regs c.args.code.now
           (c.args.pc / 4096 * 4096) a ((c.args.pc / 4096 * 4096 + c.follow-gone.result.to) % 2 ^ 32)
           c.args.budget c.loop-lines.left c.follow-gone.result.left c.follow-gone.ensures.within
-          i.0 (λ floor f t u ru. c.follow-gone.ensures.reaches c.args.code.now a floor f t u landed
-          ru) floor f t w (i.3 floor f t w runs) in (x.reaches, x.outside),
+          i.0 (λ h v x. c.follow-gone.ensures.reaches c.args.code.now a h v landed x) f
+          (with_pc c.args.regs.now c.args.pc) u (i.3 f u shows) in (x.reaches, x.outside),
       (c.is_place.ensures c.if-not-is_place.false).0,
       (c.is_place.ensures c.if-not-is_place.false).1,
     )
 
 pub returns-then-at-eq0-clause-reaches : goal.returns-then-at-eq0-clause-reaches
-returns-then-at-eq0-clause-reaches g c = λ floor f t w runs.
-    let r = c.loop-lines.invariant.3 floor f t w runs in
+returns-then-at-eq0-clause-reaches g c = λ f u shows.
+    let r = c.loop-lines.invariant.3 f u shows in
     record { reaches = r.0; outside = r.1 }
 
 pub returns-then-left-from-clause-reaches : goal.returns-then-left-from-clause-reaches
-returns-then-left-from-clause-reaches g c = λ floor f t w runs.
+returns-then-left-from-clause-reaches g c = λ f u shows.
     let i = c.loop-lines.invariant in
     let m = c.loop-lines.memory in
     let n = c.part_of_run-gone.new.memory in
@@ -170,11 +183,11 @@ returns-then-left-from-clause-reaches g c = λ floor f t w runs.
     (c.args.pc / 4096 * 4096) a ((c.args.pc / 4096 * 4096 + c.part_of_run-gone.result.to) % 2 ^ 32)
     c.args.budget c.loop-lines.left c.part_of_run-gone.result.left
     c.part_of_run-gone.ensures.within i.0
-    (λ floor f t u ru. c.part_of_run-gone.ensures.reaches c.args.code.now a floor f t u landed ru)
-    floor f t w (i.3 floor f t w runs)
+    (λ h v x. c.part_of_run-gone.ensures.reaches c.args.code.now a h v landed x) f
+    (with_pc c.args.regs.now c.args.pc) u (i.3 f u shows)
 
 pub returns-then-gone-left-clause-reaches : goal.returns-then-gone-left-clause-reaches
-returns-then-gone-left-clause-reaches g c = λ floor f t w runs.
+returns-then-gone-left-clause-reaches g c = λ f u shows.
     let i = c.loop-lines.invariant in
     let m = c.loop-lines.memory in
     let n = c.part_of_run-gone.new.memory in
@@ -183,14 +196,14 @@ returns-then-gone-left-clause-reaches g c = λ floor f t w runs.
     let landed = landed-in m.shown m.compared c.args.code.now c.lines-lines.result.now
     (c.args.pc / 4096 * 4096) a c.landing-at.result c.lines-lines.ensures.lines
     c.landing-at.ensures c.if-at-eq0.false in
-    subst (λ k. ReachesIn (c.args.pc / 4096 * 4096)
-    (shown g n (f, bytes_of_pages c.args.code.now) t) w t (with_pc c.part_of_run-gone.new.regs to)
-    (floor + c.args.budget) (floor + k)) c.if-gone-left.true
+    subst (λ k. ReachesIn (c.args.pc / 4096 * 4096) (answers g f)
+    (shown g n (f, bytes_of_pages c.args.code.now)) (with_pc c.args.regs.now c.args.pc) u
+    (with_pc c.part_of_run-gone.new.regs to) (c.args.budget - k)) c.if-gone-left.true
     (run-more g m n c.loop-lines.regs c.part_of_run-gone.new.regs c.args.code.now
     (c.args.pc / 4096 * 4096) a to c.args.budget c.loop-lines.left c.part_of_run-gone.result.left
     c.part_of_run-gone.ensures.within i.0
-    (λ floor f t u ru. c.part_of_run-gone.ensures.reaches c.args.code.now a floor f t u landed ru)
-    floor f t w (i.3 floor f t w runs))
+    (λ h v x. c.part_of_run-gone.ensures.reaches c.args.code.now a h v landed x) f
+    (with_pc c.args.regs.now c.args.pc) u (i.3 f u shows))
 
 pub returns-then-gone-left-clause-line : goal.returns-then-gone-left-clause-line
 returns-then-gone-left-clause-line g c =
@@ -217,7 +230,7 @@ returns-then-gone-left-2-clause-line g c =
     c.if-gone-left-2.true) refl)
 
 pub returns-then-gone-left-2-clause-reaches : goal.returns-then-gone-left-2-clause-reaches
-returns-then-gone-left-2-clause-reaches g c = λ floor f t w runs.
+returns-then-gone-left-2-clause-reaches g c = λ f u shows.
     let i = c.loop-lines.invariant in
     let m = c.loop-lines.memory in
     let n = c.follow-gone.new.memory in
@@ -226,17 +239,17 @@ returns-then-gone-left-2-clause-reaches g c = λ floor f t w runs.
     let landed = landed-in m.shown m.compared c.args.code.now c.lines-lines.result.now
     (c.args.pc / 4096 * 4096) a c.landing-at.result c.lines-lines.ensures.lines
     c.landing-at.ensures c.if-at-eq0.false in
-    subst (λ k. ReachesIn (c.args.pc / 4096 * 4096)
-    (shown g n (f, bytes_of_pages c.args.code.now) t) w t (with_pc c.follow-gone.new.regs to)
-    (floor + c.args.budget) (floor + k)) c.if-gone-left-2.true
+    subst (λ k. ReachesIn (c.args.pc / 4096 * 4096) (answers g f)
+    (shown g n (f, bytes_of_pages c.args.code.now)) (with_pc c.args.regs.now c.args.pc) u
+    (with_pc c.follow-gone.new.regs to) (c.args.budget - k)) c.if-gone-left-2.true
     (run-more g m n c.loop-lines.regs c.follow-gone.new.regs c.args.code.now
     (c.args.pc / 4096 * 4096) a to c.args.budget c.loop-lines.left c.follow-gone.result.left
     c.follow-gone.ensures.within i.0
-    (λ floor f t u ru. c.follow-gone.ensures.reaches c.args.code.now a floor f t u landed ru)
-    floor f t w (i.3 floor f t w runs))
+    (λ h v x. c.follow-gone.ensures.reaches c.args.code.now a h v landed x) f
+    (with_pc c.args.regs.now c.args.pc) u (i.3 f u shows))
 
 pub returns-then-not-is_place-clause-reaches : goal.returns-then-not-is_place-clause-reaches
-returns-then-not-is_place-clause-reaches g c = λ floor f t w runs.
+returns-then-not-is_place-clause-reaches g c = λ f u shows.
     let i = c.loop-lines.invariant in
     let m = c.loop-lines.memory in
     let n = c.follow-gone.new.memory in
@@ -247,5 +260,5 @@ returns-then-not-is_place-clause-reaches g c = λ floor f t w runs.
     run-more g m n c.loop-lines.regs c.follow-gone.new.regs c.args.code.now
     (c.args.pc / 4096 * 4096) a ((c.args.pc / 4096 * 4096 + c.follow-gone.result.to) % 2 ^ 32)
     c.args.budget c.loop-lines.left c.follow-gone.result.left c.follow-gone.ensures.within i.0
-    (λ floor f t u ru. c.follow-gone.ensures.reaches c.args.code.now a floor f t u landed ru)
-    floor f t w (i.3 floor f t w runs)
+    (λ h v x. c.follow-gone.ensures.reaches c.args.code.now a h v landed x) f
+    (with_pc c.args.regs.now c.args.pc) u (i.3 f u shows)

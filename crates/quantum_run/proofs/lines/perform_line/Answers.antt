@@ -1,5 +1,4 @@
 use Rattle.std.proofs.Common.{ℕ, ◌+◌, ◌%◌, ◌^◌, List, Option, refl, subst, unwrap_or}
-use Rattle.dos_world.specs.World.{World}
 use Rattle.dos_world.specs.declared.Reason.TheVariants.{Fault, Service}
 use Rattle.rv_isa.specs.declared.Instr.TheVariants.{Ecall, Imm, Jal, Jalr, Load, Reg, Shift, Store}
 use Rattle.rv_isa.specs.declared.ImmOp.TheVariants as imms
@@ -13,7 +12,8 @@ use Rattle.rv_exec.specs.Arrivals.{SettlesBy}
 use Rattle.rv_exec.specs.Instruction.{effect_of_form}
 use Rattle.code_pages.specs.declared.kind.Kind.TheVariants as kind
 use Rattle.quantum_run.specs.Flying.{DoneOrNot}
-use Rattle.quantum_run.specs.Showing.{ShowsKnown, Still, still}
+use Rattle.quantum_run.specs.Answering.{Still, still}
+use Rattle.quantum_run.specs.Showing.{ShowsKnown, answers_of}
 use Rattle.quantum_run.specs.declared.thread_memory.Running.{Running}
 use Rattle.quantum_run.proofs.Flying.{by-kind, by-settling, kind-is, settled}
 use Rattle.quantum_run.proofs.lines.perform_line.Given as given
@@ -21,13 +21,14 @@ use Rattle.quantum_run.proofs.lines.perform_line.Goals as goal
 
 -- what a memory shows
 abbrev shown : (g : given.Over) → Running g.row.P.Denot g.P.Pages
-    → (Still × g.P.Pages.Fixed) × List (Option (List ℕ)) → ℕ → World → Type 0
+    → (Still × g.P.Pages.Fixed) × List (Option (List ℕ)) → g.P.Pages.State → Type 0
 shown g m = ShowsKnown (still m.tid (g.P.Pages.owners m.pages) m.space.now.entries)
-    (g.P.Pages.fixed m.pages) (g.P.Pages.pages m.pages) m.shown m.compared
+    (g.P.Pages.fixed m.pages) (g.P.Pages.state m.pages) (g.P.Pages.pages m.pages) m.shown m.compared
 
 pub returns-in-Addi-clause-done : goal.returns-in-Addi-clause-done
 returns-in-Addi-clause-done g c =
-    by-settling (shown g c.args.memory.now) c.args.line.now.kind kind.Addi c.args.line.now.turned
+    by-settling (answers_of g.P.Pages.places) (shown g c.args.memory.now) c.args.line.now.kind
+    kind.Addi c.args.line.now.turned
     c.args.line.now.form c.args.line.now.size c.in-Addi.is c.args.line.now.is
     (Imm imms.Addi c.args.line.now.form.rd c.args.line.now.form.rs1 c.args.line.now.form.imm) refl
     ((c.args.base + c.args.line.now.offset) % 2 ^ 32) c.args.regs.now c.immediate.new.regs
@@ -37,7 +38,8 @@ returns-in-Addi-clause-done g c =
 
 pub returns-in-Add-clause-done : goal.returns-in-Add-clause-done
 returns-in-Add-clause-done g c =
-    by-settling (shown g c.args.memory.now) c.args.line.now.kind kind.Add c.args.line.now.turned
+    by-settling (answers_of g.P.Pages.places) (shown g c.args.memory.now) c.args.line.now.kind
+    kind.Add c.args.line.now.turned
     c.args.line.now.form c.args.line.now.size c.in-Add.is c.args.line.now.is
     (Reg regs.Add c.args.line.now.form.rd c.args.line.now.form.rs1 c.args.line.now.form.rs2) refl
     ((c.args.base + c.args.line.now.offset) % 2 ^ 32) c.args.regs.now c.register.new.regs
@@ -47,7 +49,8 @@ returns-in-Add-clause-done g c =
 
 pub returns-in-Slli-clause-done : goal.returns-in-Slli-clause-done
 returns-in-Slli-clause-done g c =
-    by-settling (shown g c.args.memory.now) c.args.line.now.kind kind.Slli c.args.line.now.turned
+    by-settling (answers_of g.P.Pages.places) (shown g c.args.memory.now) c.args.line.now.kind
+    kind.Slli c.args.line.now.turned
     c.args.line.now.form c.args.line.now.size c.in-Slli.is c.args.line.now.is
     (Shift shifts.Slli c.args.line.now.form.rd c.args.line.now.form.rs1 c.args.line.now.form.rs2)
     refl
@@ -57,7 +60,8 @@ returns-in-Slli-clause-done g c =
 
 pub returns-in-Srli-clause-done : goal.returns-in-Srli-clause-done
 returns-in-Srli-clause-done g c =
-    by-settling (shown g c.args.memory.now) c.args.line.now.kind kind.Srli c.args.line.now.turned
+    by-settling (answers_of g.P.Pages.places) (shown g c.args.memory.now) c.args.line.now.kind
+    kind.Srli c.args.line.now.turned
     c.args.line.now.form c.args.line.now.size c.in-Srli.is c.args.line.now.is
     (Shift shifts.Srli c.args.line.now.form.rd c.args.line.now.form.rs1 c.args.line.now.form.rs2)
     refl
@@ -68,7 +72,8 @@ returns-in-Srli-clause-done g c =
 
 pub returns-in-Xor-clause-done : goal.returns-in-Xor-clause-done
 returns-in-Xor-clause-done g c =
-    by-settling (shown g c.args.memory.now) c.args.line.now.kind kind.Xor c.args.line.now.turned
+    by-settling (answers_of g.P.Pages.places) (shown g c.args.memory.now) c.args.line.now.kind
+    kind.Xor c.args.line.now.turned
     c.args.line.now.form c.args.line.now.size c.in-Xor.is c.args.line.now.is
     (Reg regs.Xor c.args.line.now.form.rd c.args.line.now.form.rs1 c.args.line.now.form.rs2) refl
     ((c.args.base + c.args.line.now.offset) % 2 ^ 32) c.args.regs.now c.register-in-Xor.new.regs
@@ -78,7 +83,8 @@ returns-in-Xor-clause-done g c =
 
 pub returns-in-And-clause-done : goal.returns-in-And-clause-done
 returns-in-And-clause-done g c =
-    by-settling (shown g c.args.memory.now) c.args.line.now.kind kind.And c.args.line.now.turned
+    by-settling (answers_of g.P.Pages.places) (shown g c.args.memory.now) c.args.line.now.kind
+    kind.And c.args.line.now.turned
     c.args.line.now.form c.args.line.now.size c.in-And.is c.args.line.now.is
     (Reg regs.And c.args.line.now.form.rd c.args.line.now.form.rs1 c.args.line.now.form.rs2) refl
     ((c.args.base + c.args.line.now.offset) % 2 ^ 32) c.args.regs.now c.register-in-And.new.regs
@@ -88,7 +94,8 @@ returns-in-And-clause-done g c =
 
 pub returns-in-Jal-clause-done : goal.returns-in-Jal-clause-done
 returns-in-Jal-clause-done g c =
-    by-settling (shown g c.args.memory.now) c.args.line.now.kind kind.Jal c.args.line.now.turned
+    by-settling (answers_of g.P.Pages.places) (shown g c.args.memory.now) c.args.line.now.kind
+    kind.Jal c.args.line.now.turned
     c.args.line.now.form c.args.line.now.size c.in-Jal.is c.args.line.now.is
     (Jal c.args.line.now.form.rd c.args.line.now.form.imm) refl
     ((c.args.base + c.args.line.now.offset) % 2 ^ 32) c.args.regs.now c.jal.new.regs c.jal.result
@@ -99,7 +106,8 @@ returns-in-Jal-clause-done g c =
 
 pub returns-in-Jalr-clause-done : goal.returns-in-Jalr-clause-done
 returns-in-Jalr-clause-done g c =
-    by-settling (shown g c.args.memory.now) c.args.line.now.kind kind.Jalr c.args.line.now.turned
+    by-settling (answers_of g.P.Pages.places) (shown g c.args.memory.now) c.args.line.now.kind
+    kind.Jalr c.args.line.now.turned
     c.args.line.now.form c.args.line.now.size c.in-Jalr.is c.args.line.now.is
     (Jalr c.args.line.now.form.rd c.args.line.now.form.rs1 c.args.line.now.form.imm) refl
     ((c.args.base + c.args.line.now.offset) % 2 ^ 32) c.args.regs.now c.jalr.new.regs c.jalr.result
@@ -111,7 +119,8 @@ returns-in-Jalr-clause-done g c =
 
 pub returns-in-Lw-clause-done : goal.returns-in-Lw-clause-done
 returns-in-Lw-clause-done g c =
-    by-kind (shown g c.args.memory.now) (shown g c.args.memory.now) c.args.line.now.kind kind.Lw
+    by-kind (answers_of g.P.Pages.places) (shown g c.args.memory.now) (shown g c.args.memory.now)
+    c.args.line.now.kind kind.Lw
     c.args.line.now.turned
     c.args.line.now.form c.args.line.now.size c.in-Lw.is c.args.line.now.is
     (Load loads.Lw c.args.line.now.form.rd c.args.line.now.form.rs1 c.args.line.now.form.imm) refl
@@ -121,7 +130,8 @@ returns-in-Lw-clause-done g c =
 
 pub returns-in-Lbu-clause-done : goal.returns-in-Lbu-clause-done
 returns-in-Lbu-clause-done g c =
-    by-kind (shown g c.args.memory.now) (shown g c.args.memory.now) c.args.line.now.kind kind.Lbu
+    by-kind (answers_of g.P.Pages.places) (shown g c.args.memory.now) (shown g c.args.memory.now)
+    c.args.line.now.kind kind.Lbu
     c.args.line.now.turned
     c.args.line.now.form c.args.line.now.size c.in-Lbu.is c.args.line.now.is
     (Load loads.Lbu c.args.line.now.form.rd c.args.line.now.form.rs1 c.args.line.now.form.imm) refl
@@ -132,7 +142,8 @@ returns-in-Lbu-clause-done g c =
 
 pub returns-in-Sw-clause-done : goal.returns-in-Sw-clause-done
 returns-in-Sw-clause-done g c =
-    by-kind (shown g c.args.memory.now) (shown g c.store_quickly.new.memory) c.args.line.now.kind
+    by-kind (answers_of g.P.Pages.places) (shown g c.args.memory.now)
+    (shown g c.store_quickly.new.memory) c.args.line.now.kind
     kind.Sw
     c.args.line.now.turned c.args.line.now.form c.args.line.now.size c.in-Sw.is c.args.line.now.is
     (Store stores.Sw c.args.line.now.form.rs1 c.args.line.now.form.rs2 c.args.line.now.form.imm)
@@ -144,7 +155,7 @@ returns-in-Sw-clause-done g c =
 
 pub returns-in-Equal-clause-done : goal.returns-in-Equal-clause-done
 returns-in-Equal-clause-done g c =
-    settled (shown g c.args.memory.now) c.args.line.now.size
+    settled (answers_of g.P.Pages.places) (shown g c.args.memory.now) c.args.line.now.size
     ((c.args.base + c.args.line.now.offset) % 2 ^ 32) c.args.regs.now
     c.args.regs.now
     c.equal.result (Fault 7) (effect_of_form c.args.line.now.form)
@@ -153,7 +164,7 @@ returns-in-Equal-clause-done g c =
 
 pub returns-in-Below-clause-done : goal.returns-in-Below-clause-done
 returns-in-Below-clause-done g c =
-    settled (shown g c.args.memory.now) c.args.line.now.size
+    settled (answers_of g.P.Pages.places) (shown g c.args.memory.now) c.args.line.now.size
     ((c.args.base + c.args.line.now.offset) % 2 ^ 32) c.args.regs.now
     c.args.regs.now
     c.below.result (Fault 7) (effect_of_form c.args.line.now.form)
@@ -162,7 +173,7 @@ returns-in-Below-clause-done g c =
 
 pub returns-in-Less-clause-done : goal.returns-in-Less-clause-done
 returns-in-Less-clause-done g c =
-    settled (shown g c.args.memory.now) c.args.line.now.size
+    settled (answers_of g.P.Pages.places) (shown g c.args.memory.now) c.args.line.now.size
     ((c.args.base + c.args.line.now.offset) % 2 ^ 32) c.args.regs.now
     c.args.regs.now
     c.less.result (Fault 7) (effect_of_form c.args.line.now.form)
@@ -171,13 +182,15 @@ returns-in-Less-clause-done g c =
 
 pub returns-in-Other-clause-done : goal.returns-in-Other-clause-done
 returns-in-Other-clause-done g c =
-    by-kind (shown g c.args.memory.now) (shown g c.other.new.memory) c.args.line.now.kind kind.Other
+    by-kind (answers_of g.P.Pages.places) (shown g c.args.memory.now) (shown g c.other.new.memory)
+    c.args.line.now.kind kind.Other
     c.args.line.now.turned c.args.line.now.form c.args.line.now.size c.in-Other.is
     c.args.line.now.is
     (unwrap_or (instr_of_form c.args.line.now.form) (Ecall, 0)).0 refl
     ((c.args.base + c.args.line.now.offset) % 2 ^ 32) c.args.regs.now c.other.new.regs
     c.other.result
-    (subst (λ pc. DoneOrNot (shown g c.args.memory.now) (shown g c.other.new.memory)
+    (subst (λ pc. DoneOrNot (answers_of g.P.Pages.places) (shown g c.args.memory.now)
+    (shown g c.other.new.memory)
     c.args.line.now.size pc c.args.regs.now c.other.new.regs c.other.result
     (effect (unwrap_or (instr_of_form c.args.line.now.form) (Ecall, 0)).0 c.args.line.now.size))
     c.pc_at-in-Other.ensures

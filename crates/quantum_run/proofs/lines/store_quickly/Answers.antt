@@ -1,4 +1,5 @@
-use Rattle.quantum_run.specs.Showing.{ShowsKnown, still}
+use Rattle.quantum_run.specs.Answering.{still}
+use Rattle.quantum_run.specs.Showing.{ShowsKnown, answers_of}
 use Rattle.quantum_run.proofs.Flying.{stored}
 use Rattle.quantum_run.proofs.lines.store_quickly.Goals as goal
 
@@ -6,10 +7,13 @@ pub returns-then-quick_store-clause-done : goal.returns-then-quick_store-clause-
 returns-then-quick_store-clause-done g c =
     let m = c.args.memory.now in
     let n = c.quick_store.new.self in
-    stored (ShowsKnown (still m.tid (g.P.Pages.owners m.pages) m.space.now.entries)
-    (g.P.Pages.fixed m.pages) (g.P.Pages.pages m.pages) m.shown m.compared)
+    stored (answers_of g.P.Pages.places)
+    (ShowsKnown (still m.tid (g.P.Pages.owners m.pages) m.space.now.entries)
+    (g.P.Pages.fixed m.pages) (g.P.Pages.state m.pages) (g.P.Pages.pages m.pages) m.shown
+    m.compared)
     (ShowsKnown (still n.tid (g.P.Pages.owners n.pages) n.space.now.entries)
-    (g.P.Pages.fixed n.pages) (g.P.Pages.pages n.pages) n.shown n.compared) c.args.op
+    (g.P.Pages.fixed n.pages) (g.P.Pages.state n.pages) (g.P.Pages.pages n.pages) n.shown
+    n.compared) c.args.op
     c.args.form.now.rs1 c.args.form.now.rs2 c.args.form.now.imm c.address_of-address.result
     c.second-value.result c.store_size.result c.args.regs.now c.quick_store.result
     c.address_of-address.ensures c.store_size.ensures c.second-value.ensures

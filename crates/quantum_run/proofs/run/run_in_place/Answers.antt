@@ -1,6 +1,9 @@
-use Rattle.std.proofs.Common.{rules}
+use Rattle.std.proofs.Common.{[], rules}
+use Rattle.page_store.specs.Store.{joined}
 use Rattle.page_store.proofs.Counts.{owned-within}
+use Rattle.quantum_run.proofs.FlatRuns.{run-elsewhere, run-ends, same-elsewhere}
 use Rattle.quantum_run.proofs.Places.{found-within, home-here, home-kept}
+use Rattle.quantum_run.proofs.Whole.{out-or, stops-flat}
 use Rattle.quantum_run.proofs.run.run_in_place.Goals as goal
 
 pub new-memory-requires-clause-reached : goal.new-memory-requires-clause-reached
@@ -41,3 +44,35 @@ returns-clause-home c = home-kept c.args.frames.now.pages _ (search rules) c.req
 pub returns-then-is_empty-clause-home : goal.returns-then-is_empty-clause-home
 returns-then-is_empty-clause-home c =
     home-kept c.args.frames.now.pages _ (search rules) c.requires.home
+
+pub returns-clause-runs : goal.returns-clause-runs
+returns-clause-runs c =
+    run-ends c.args.tid c.args.frames.now c.args.space.now.entries _ c.args.regs.now
+    c.run_up_to-stop.new.regs c.args.budget.now c.run_up_to-stop.new.budget
+    c.run_up_to-stop.ensures.within (search rules)
+
+pub returns-clause-stop : goal.returns-clause-stop
+returns-clause-stop c =
+    stops-flat _ c.args.tid c.args.frames.now c.args.space.now.entries _ c.args.regs.now
+    c.run_up_to-stop.new.regs c.args.budget.now c.run_up_to-stop.new.budget c.run_up_to-stop.result
+    (search rules)
+
+pub returns-clause-elsewhere : goal.returns-clause-elsewhere
+returns-clause-elsewhere c =
+    run-elsewhere c.args.tid c.args.frames.now c.args.space.now.entries [] c.args.regs.now
+    c.run_up_to-stop.new.regs c.args.budget.now c.run_up_to-stop.new.budget c.args.stops.now
+    (same-elsewhere c.args.tid _ c.args.frames.now.owners _ c.args.space.now.entries _
+    (joined c.args.frames.now.pages) _ c.args.stops.now _ _ (search rules) (search rules)
+    (search rules) (search rules) c.run_up_to-stop.ensures.elsewhere)
+
+pub returns-then-is_empty-clause-runs : goal.returns-then-is_empty-clause-runs
+returns-then-is_empty-clause-runs c =
+    run-ends c.args.tid c.args.frames.now c.args.space.now.entries _ c.args.regs.now
+    c.run-stop.new.regs c.args.budget.now c.run-stop.new.budget c.run-stop.ensures.within
+    (search rules)
+
+pub returns-then-is_empty-clause-stop : goal.returns-then-is_empty-clause-stop
+returns-then-is_empty-clause-stop c =
+    out-or _ _ _ c.run-stop.result
+    (stops-flat _ c.args.tid c.args.frames.now c.args.space.now.entries _ c.args.regs.now
+    c.run-stop.new.regs c.args.budget.now c.run-stop.new.budget c.run-stop.result (search rules))

@@ -1,7 +1,7 @@
-use Rattle.std.proofs.Common.{◌≡◌, ◌⊎◌, ap, true}
-use Rattle.quantum_run.specs.Showing.{Still, still}
-use Rattle.quantum_run.specs.ThreadRuns.{IsRunOf, is_stop_at, run_to, store_of}
-use Rattle.quantum_run.proofs.Whole.{begins, ends, stands, stops, stops-both}
+use Rattle.std.proofs.Common.{◌≡◌, ◌∙◌, ◌⊎◌, ap, refl, Some, sym, true}
+use Rattle.quantum_run.specs.Answering.{Still, run_answers, still}
+use Rattle.quantum_run.specs.ThreadRuns.{is_stop_at}
+use Rattle.quantum_run.proofs.Whole.{stops-by}
 use Rattle.quantum_run.proofs.run.run_up_to.Goals as goal
 
 pub returns : goal.returns
@@ -9,35 +9,21 @@ returns g c =
     let m = c.args.memory.now in
     let n = c.go_up_to-stop.new.memory in
     let e = c.go_up_to-stop.ensures in
-    let owners = g.P.Pages.owners m.pages in
-    let entries = m.space.now.entries in
-    let old = still m.tid owners entries in
-    let new = still n.tid (g.P.Pages.owners n.pages) n.space.now.entries in
+    let old = still m.tid (g.P.Pages.owners m.pages) m.space.now.entries in
     let fixed = g.P.Pages.fixed m.pages in
-    let after = g.P.Pages.fixed n.pages in
-    let pages = g.P.Pages.pages m.pages in
-    let left_pages = g.P.Pages.pages n.pages in
-    let regs = c.args.regs.now in
-    let left_regs = c.go_up_to-stop.new.regs in
-    let budget = c.args.budget.now in
     let left = c.go_up_to-stop.new.budget in
-    let floor = left in
-    let stop = c.go_up_to-stop.result in
-    let goes = e.runs (old, fixed) m.tid in
-    let same = stands floor old new fixed after pages left_pages regs left_regs budget left stop
-    (e.runs (old, fixed) 1) in
+    let regs = c.go_up_to-stop.new.regs in
+    let gone = e.runs (old, fixed) (g.P.Pages.state m.pages)
+    (record { still = refl; fixed_is = refl; state_is = refl }) in
+    let shown = gone.reaches.shown in
     record {
-      runs = ends floor m.tid owners entries new fixed after pages left_pages regs left_regs budget
-          left stop goes;
-      stop = stops-both ((left ≡ 0) ⊎ (is_stop_at c.args.stops.now left_regs.pc ≡ true)) stop
-          floor left m.tid
-          (λ w. IsRunOf w (store_of owners pages) entries m.tid regs budget)
-          (λ w. run_to w m.tid left_pages left_regs left) e.stop
-          (stops floor m.tid owners entries new fixed after pages left_pages regs left_regs budget
-          left stop goes);
-      elsewhere = λ w is. e.elsewhere (old, fixed) m.tid w
-          (begins m.tid owners entries fixed pages w regs budget is);
+      runs = gone.reaches.ran ∙ ap (λ u. Some (regs, u)) (sym shown.state_is);
+      stop = stops-by (run_answers old (g.P.Pages.places fixed))
+          ((left ≡ 0) ⊎ (is_stop_at c.args.stops.now regs.pc ≡ true)) c.go_up_to-stop.result left
+          regs gone.reaches.now (g.P.Pages.state n.pages) shown.state_is e.stop gone.stops;
+      elsewhere = e.elsewhere (old, fixed) (g.P.Pages.state m.pages)
+          (record { still = refl; fixed_is = refl; state_is = refl });
       within = e.within;
-      owners = ap (λ (x : Still). x.owners) same.0;
-      fixed = same.1;
+      owners = ap (λ (x : Still). x.owners) shown.still;
+      fixed = shown.fixed_is;
     }

@@ -1,15 +1,15 @@
 use Rattle.code_pages.specs.Lines.{bytes_of_pages}
-use Rattle.quantum_run.specs.Showing.{still}
+use Rattle.quantum_run.specs.Answering.{still}
 use Rattle.quantum_run.proofs.Reaching.{shows-learnt}
 use Rattle.quantum_run.proofs.slowly.learns.Goals as goal
 
 pub returns-then-is_wanted-clause-shows : goal.returns-then-is_wanted-clause-shows
-returns-then-is_wanted-clause-shows g c = λ f t w shows.
+returns-then-is_wanted-clause-shows g c = λ f u shows.
     let m = c.args.memory.now in
     let n = c.line_to_perform.new.self in
     let e = c.line_to_perform.ensures in
-    shows-learnt (still m.tid (g.P.Pages.owners m.pages) m.space.now.entries)
-    (still n.tid (g.P.Pages.owners n.pages) n.space.now.entries) (g.P.Pages.fixed m.pages)
-    (g.P.Pages.fixed n.pages) (g.P.Pages.pages m.pages) (g.P.Pages.pages n.pages) m.shown
-    n.shown m.compared n.compared f (bytes_of_pages c.args.code.now)
-    (bytes_of_pages c.line_to_perform.new.code) t w e.still e.fixed e.pages e.right shows
+    shows-learnt g.P.Pages.fixed g.P.Pages.state g.P.Pages.pages m.pages n.pages
+    (still m.tid (g.P.Pages.owners m.pages) m.space.now.entries)
+    (still n.tid (g.P.Pages.owners n.pages) n.space.now.entries) m.shown n.shown m.compared
+    n.compared f (bytes_of_pages c.args.code.now) (bytes_of_pages c.line_to_perform.new.code) u
+    e.still e.pages e.right shows

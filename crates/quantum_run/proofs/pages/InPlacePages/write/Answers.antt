@@ -1,16 +1,8 @@
-use Rattle.std.proofs.Common.{ap}
-use Rattle.quantum_run.proofs.Overlay.{here-set, some-set}
+use Rattle.std.proofs.Common.{sym, ap, Some}
+use Rattle.quantum_run.proofs.Places.{writes-joined}
 use Rattle.quantum_run.proofs.pages.InPlacePages.write.Goals as goal
 
-pub returns-clause-fixed : goal.returns-clause-fixed
-returns-clause-fixed c = ap (λ bs. (
-  c.args.self.now.frames.ghost_name,
-  c.args.self.now.frames.now.uses,
-  c.args.self.now.frames.now.marked,
-  bs,
-))
-    (some-set c.args.self.now.frames.now.pages c.args.frame c.write.new.self c.requires.own)
-
-pub returns-clause-own : goal.returns-clause-own
-returns-clause-own c = λ f here.
-    here-set c.args.self.now.frames.now.pages c.args.frame c.write.new.self f here
+pub returns-clause-stored : goal.returns-clause-stored
+returns-clause-stored c = λ did.
+    ap Some (sym (writes-joined c.args.self.now.frames.now.pages c.put.new.self.frames.now.pages
+    c.args.frame c.args.offset c.args.size c.args.value c.requires.within c.put.ensures.pages))

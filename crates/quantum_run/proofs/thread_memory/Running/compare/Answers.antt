@@ -19,9 +19,9 @@ returns-clause-right g c = λ are.
     let place : 16 * slot + address % 4096 / 256 ≡ block_place address = omega (arith, is) in
     right-compared m.shown m.compared pages (bytes_of_pages c.check.new.self) c.args.code.now
     address (address % 4096 / 256) c.code_place.result (16 * slot + address % 4096 / 256)
-    c.page-page.result.now c.bytes.result.now c.check.result c.if-not-check.false
+    c.in-Some.page.now c.bytes.result.now c.check.result c.if-not-check.false
     c.ranges.address.fits c.requires.found
     (ap (λ (s : Slot). slice_get pages s.frame) (sym (slot-here m.shown address slot none is small))
-    ∙ c.page-page.ensures)
+    ∙ c.in-Some.ensures)
     refl c.code_place.ensures.place place c.bytes.ensures.value c.check.ensures.there
     c.check.ensures.known c.check.ensures.pages are

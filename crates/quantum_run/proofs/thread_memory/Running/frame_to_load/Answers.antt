@@ -17,7 +17,6 @@ returns-then-slot-aligned_start g c =
       aligned = found.0;
       home = m.reached Load c.args.address _ found.1;
       still = refl;
-      fixed = refl;
       pages = refl;
       same = (refl, refl);
     }

@@ -26,6 +26,5 @@ returns-then-slot-aligned_start g c =
           (omega (arith, start, aligned, c.ranges.address.fits));
       right = λ known are. are;
       still = refl;
-      fixed = refl;
       pages = refl;
     }

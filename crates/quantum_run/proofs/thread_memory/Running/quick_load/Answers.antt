@@ -1,12 +1,13 @@
-use Rattle.std.proofs.Common.{Ok, ◌<◌, ◌≡◌, ◌∙◌, length, rules, subst}
-use Rattle.std.specs.Prelude.{slice_index_or}
+use Rattle.std.proofs.Common.{◌<◌, ◌∙◌, ◌≡◌, Ok, length, rules, sym}
 use Rattle.dos_world.specs.declared.Access.TheVariants.{Load}
+use Rattle.flat_machine.specs.Over.{MemoryAnswers}
+use Rattle.page_store.specs.Store.{joined}
+use Rattle.quantum_run.specs.Answering.{still}
 use Rattle.quantum_run.specs.declared.slot.Slot.{Slot}
-use Rattle.quantum_run.specs.Finding.{frame_for}
-use Rattle.quantum_run.specs.Showing.{Still}
 use Rattle.quantum_run.proofs.Places.{aligned-found}
-use Rattle.quantum_run.proofs.Reaching.{load-found}
+use Rattle.quantum_run.proofs.Reaching.{aligned-frame, as-shown, read-found}
 use Rattle.quantum_run.proofs.thread_memory.Running.quick_load.Goals as goal
+use Rattle.std.specs.Prelude.{slice_index_or}
 
 pub read_aligned-requires : goal.read_aligned-requires
 read_aligned-requires g c =
@@ -20,7 +21,7 @@ read_aligned-requires g c =
 
 pub returns : goal.returns
 returns g c = record {
-  number = λ f t w s.
+  number = λ f u s.
       let m = c.args.self.now in
       let owners = g.P.Pages.owners m.pages in
       let none : Slot = record { start = 0; frame = 0 } in
@@ -29,9 +30,15 @@ returns g c = record {
       let found = aligned-found m.tid owners m.space.now.entries Load _ _ c.args.address c.args.size
       (m.loaded_are c.slot_place.result none small)
       c.ranges.address.fits (c.if-slot-aligned_start.false ∙ c.aligned_start.ensures) in
-      load-found f.0.0 (g.P.Pages.pages m.pages) t w s.shows.holds c.args.address c.args.size frame
-      c.read_aligned.result found.0
-      (subst (λ (x : Still). frame_for x.thread x.owners x.entries Load c.args.address ≡ Ok frame)
-      s.shows.still found.1)
-      c.read_aligned.ensures.value;
+      let now = still m.tid owners m.space.now.entries in
+      let fixed = g.P.Pages.fixed m.pages in
+      let state = g.P.Pages.state m.pages in
+      let places = g.P.Pages.places fixed in
+      as-shown g.P.Pages.places now fixed state f.0 u
+      (λ (answers : MemoryAnswers g.P.Pages.State) (x : g.P.Pages.State).
+      answers.load x c.args.address c.args.size ≡ Ok c.read_aligned.result) s.shows
+      (sym (read-found now places state c.args.address c.args.size Load
+      (joined (g.P.Pages.pages m.pages)) frame c.read_aligned.result (g.P.Pages.bytes_are m.pages)
+      (aligned-frame now places state c.args.address c.args.size Load frame found.0 found.1)
+      c.read_aligned.ensures.value));
 }

@@ -1,7 +1,8 @@
-use Rattle.quantum_run.proofs.Places.{read-joined}
+use Rattle.quantum_run.proofs.Places.{aligned-offset, aligned-within}
 use Rattle.quantum_run.proofs.thread_memory.Running.read.Goals as goal
 
-pub returns-clause-value : goal.returns-clause-value
-returns-clause-value g c =
-    read-joined (g.P.Pages.pages c.args.self.now.pages) c.args.frame c.args.address c.args.size
-    c.page.result.now c.read.result c.page.ensures c.requires.within c.read.ensures.value
+pub read-requires-clause-within : goal.read-requires-clause-within
+read-requires-clause-within g c = aligned-within c.args.address c.args.size c.requires.aligned
+
+pub read-requires-clause-aligned : goal.read-requires-clause-aligned
+read-requires-clause-aligned g c = aligned-offset c.args.address c.args.size c.requires.aligned

@@ -4,7 +4,7 @@ use Rattle.dos_world.specs.declared.Access.TheVariants.{Store}
 use Rattle.quantum_run.specs.declared.slot.Slot.{Slot}
 use Rattle.quantum_run.specs.Finding.{frame_for, page_start}
 use Rattle.quantum_run.specs.Knowing.{SlotsAreMarked}
-use Rattle.quantum_run.specs.Showing.{Still}
+use Rattle.quantum_run.specs.Answering.{Still}
 use Rattle.quantum_run.proofs.Apart.{apart-stored, marked-more}
 use Rattle.quantum_run.proofs.Places.{more-found, stores-again}
 use Rattle.quantum_run.proofs.thread_memory.Running.store_again.Goals as goal

@@ -1,33 +1,48 @@
+use Rattle.std.proofs.Common.{◌≡◌, ◌∙◌, Err, Ok, ap, sym}
 use Rattle.dos_world.specs.declared.Access.TheVariants.{Load}
-use Rattle.quantum_run.specs.Showing.{still}
+use Rattle.flat_machine.specs.Over.{MemoryAnswers}
+use Rattle.page_store.specs.Store.{joined}
+use Rattle.quantum_run.specs.Answering.{still}
 use Rattle.quantum_run.proofs.Comparing.{keeps-same}
-use Rattle.quantum_run.proofs.Reaching.{read-found, read-refused, shows-known}
+use Rattle.quantum_run.proofs.Reaching.{as-shown, read-found, read-refused, shows-known}
 use Rattle.quantum_run.proofs.thread_memory.RunningMemory.load.Goals as goal
 
 pub returns-in-Some : goal.returns-in-Some
-returns-in-Some g c = λ all w s.
-    let f = all.0 in
-    let t = all.1 in
+returns-in-Some g c = λ f u s.
     let e = c.in-Some.ensures in
-    let m = c.args.self.now in (
-      shows-known _ _ _ _ _ _ _ _ _ _ f t w e.still e.fixed e.pages
-          (keeps-same _ _ _ _ _ _ e.same.0 e.same.1 e.pages) s,
-      read-found (still m.tid (g.P.Pages.owners m.pages) m.space.now.entries) f.0.0 s.shows.still
-          (g.P.Pages.pages m.pages) t w s.shows.holds c.args.address c.args.size Load
-          (g.P.Pages.pages c.frame_to_load.new.self.pages) c.in-Some.frame
-          c.read_aligned.result e.value e.pages
-          c.read_aligned.ensures.value,
+    let m = c.args.self.now in
+    let n = c.frame_to_load.new.self in
+    let now = still m.tid (g.P.Pages.owners m.pages) m.space.now.entries in
+    let fixed = g.P.Pages.fixed m.pages in
+    let state = g.P.Pages.state m.pages in (
+      shows-known g.P.Pages.fixed g.P.Pages.state g.P.Pages.pages m.pages n.pages _ _ _ _ _ _ f u
+          e.still e.pages
+          (keeps-same g.P.Pages.pages m.shown n.shown m.compared n.compared m.pages n.pages e.same.0
+          e.same.1 e.pages) s,
+      as-shown g.P.Pages.places now fixed state f.0 u
+          (λ (answers : MemoryAnswers g.P.Pages.State) (x : g.P.Pages.State).
+          Ok c.read_aligned.result ≡ answers.load x c.args.address c.args.size) s.shows
+          (read-found now (g.P.Pages.places fixed) state c.args.address c.args.size Load
+          (joined (g.P.Pages.pages n.pages)) c.in-Some.frame c.read_aligned.result
+          (g.P.Pages.bytes_are m.pages ∙ ap (λ p. joined (g.P.Pages.pages p)) (sym e.pages)) e.value
+          c.read_aligned.ensures.value),
     )
 
 pub returns-in-None : goal.returns-in-None
-returns-in-None g c = λ all w s.
-    let f = all.0 in
-    let t = all.1 in
+returns-in-None g c = λ f u s.
     let e = c.in-None.ensures in
-    let m = c.args.self.now in (
-      shows-known _ _ _ _ _ _ _ _ _ _ f t w e.still e.fixed e.pages
-          (keeps-same _ _ _ _ _ _ e.same.0 e.same.1 e.pages) s,
-      read-refused (still m.tid (g.P.Pages.owners m.pages) m.space.now.entries) f.0.0 s.shows.still
-          (g.P.Pages.pages m.pages) t w s.shows.holds c.args.address c.args.size Load
-          c.frame_to_load.new.self.refused e.value,
+    let m = c.args.self.now in
+    let n = c.frame_to_load.new.self in
+    let now = still m.tid (g.P.Pages.owners m.pages) m.space.now.entries in
+    let fixed = g.P.Pages.fixed m.pages in
+    let state = g.P.Pages.state m.pages in (
+      shows-known g.P.Pages.fixed g.P.Pages.state g.P.Pages.pages m.pages n.pages _ _ _ _ _ _ f u
+          e.still e.pages
+          (keeps-same g.P.Pages.pages m.shown n.shown m.compared n.compared m.pages n.pages e.same.0
+          e.same.1 e.pages) s,
+      as-shown g.P.Pages.places now fixed state f.0 u
+          (λ (answers : MemoryAnswers g.P.Pages.State) (x : g.P.Pages.State).
+          Err n.refused ≡ answers.load x c.args.address c.args.size) s.shows
+          (read-refused now (g.P.Pages.places fixed) state c.args.address c.args.size Load n.refused
+          e.value),
     )

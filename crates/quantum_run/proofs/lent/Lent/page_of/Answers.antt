@@ -2,7 +2,7 @@ use Rattle.std.proofs.Common.{rules, ◌<◌, sym, ap, ◌∙◌, length, Some}
 use Rattle.std.specs.Prelude.{slice_get}
 use Rattle.quantum_run.proofs.Overlay.{within-own, within-lent, overlay-own, overlay-lent, get-of}
 use Rattle.quantum_run.proofs.Overlay.{lent-page, some-at}
-use Rattle.quantum_run.proofs.lent.LentPages.page.Goals as goal
+use Rattle.quantum_run.proofs.lent.Lent.page_of.Goals as goal
 
 pub index-requires : goal.index-requires
 index-requires c =
