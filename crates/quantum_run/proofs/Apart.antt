@@ -10,7 +10,7 @@ use Rattle.std.specs.Prelude.{slice_index_or, ◌==◌, ◌||◌}
 use Rattle.std.specs.List.{list_any}
 use Rattle.std.proofs.lemmas.List.Elements.{All-same, All-set, All-nil, All-cons, All-replicate}
 use Rattle.std.proofs.lemmas.List.Elements.{All-from_get_or}
-use Rattle.quantum_run.specs.declared.slot.Slot.{Slot}
+use Rattle.page_store.specs.declared.compared.Slot.{Slot}
 use Rattle.quantum_run.specs.Finding.{no_start}
 use Rattle.quantum_run.specs.Knowing.{AreFewer, AreHidden, FetchesAreApart, IsNoCode}
 use Rattle.quantum_run.specs.Knowing.{SlotsAreMarked, empty_slot}

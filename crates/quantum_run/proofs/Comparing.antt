@@ -18,7 +18,7 @@ use Rattle.page_store.specs.Store.{whole}
 use Rattle.page_store.proofs.Pages.{length-whole, length-zero_page}
 use Rattle.code_pages.specs.Lines.{AreKnownPages, CodePage, Known, bytes_of_pages, page_bytes_at}
 use Rattle.code_pages.specs.Lines.{with_block}
-use Rattle.quantum_run.specs.declared.slot.Slot.{Slot}
+use Rattle.page_store.specs.declared.compared.Slot.{Slot}
 use Rattle.quantum_run.specs.Finding.{no_start, page_start}
 use Rattle.quantum_run.specs.Knowing.{AreFewer, AreHidden, AreRight, AreSameAround, IsCompared}
 use Rattle.quantum_run.specs.Knowing.{IsNoCode, IsRightAt, IsUncompared, KeepsRight, block_place}

@@ -22,7 +22,7 @@ use Rattle.page_store.specs.Store.{Store as Frames, whole, joined, number_at}
 use Rattle.std.proofs.lemmas.List.Elements.{All-nil, All-cons, All-head, All-tail}
 use Rattle.page_store.proofs.Joined.{joined-number, joined-written}
 use Rattle.quantum_run.specs.ThreadRuns.{AreMapped}
-use Rattle.quantum_run.specs.declared.slot.Slot.{Slot}
+use Rattle.page_store.specs.declared.compared.Slot.{Slot}
 use Rattle.quantum_run.specs.Finding.{AreFramesOf, IsFrameOf, IsWriting, frame_by, frame_for}
 use Rattle.quantum_run.specs.Finding.{frame_for_size, no_start, page_start}
 use Rattle.quantum_run.specs.Knowing.{empty_slot}

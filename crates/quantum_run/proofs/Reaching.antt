@@ -18,7 +18,7 @@ use Rattle.quantum_run.specs.Answering.{Places, Still, frame_found, left_or_page
 use Rattle.quantum_run.specs.Answering.{word_or_page}
 use Rattle.quantum_run.specs.Finding.{frame_for, flat_place}
 use Rattle.quantum_run.proofs.Places.{sized}
-use Rattle.quantum_run.specs.declared.slot.Slot.{Slot}
+use Rattle.page_store.specs.declared.compared.Slot.{Slot}
 use Rattle.quantum_run.specs.Knowing.{AreRight, KeepsRight}
 use Rattle.quantum_run.specs.Showing.{ShowsBy, ShowsKnown}
 

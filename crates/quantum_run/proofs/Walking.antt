@@ -24,7 +24,7 @@ use Rattle.code_pages.specs.Lines.{IsStartIn, Known, bytes_of_pages, start_at}
 use Rattle.code_pages.specs.declared.kind.Kind.TheVariants as kind
 use Rattle.code_pages.specs.declared.line.Line.{Line}
 use Rattle.code_pages.proofs.KnownLaws.{IsNextLine, line-of-start, live-line, next-line}
-use Rattle.quantum_run.specs.declared.slot.Slot.{Slot}
+use Rattle.page_store.specs.declared.compared.Slot.{Slot}
 use Rattle.quantum_run.specs.Finding.{AreFramesOf, page_start}
 use Rattle.quantum_run.specs.Flying.{DoneOrNot, IsLineOf}
 use Rattle.quantum_run.specs.Knowing.{IsLineFor, block_place, code_place, empty_slot}

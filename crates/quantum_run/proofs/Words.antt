@@ -19,7 +19,7 @@ use Rattle.code_pages.specs.Lines.{bytes_of_pages}
 use Rattle.flat_machine.specs.Over.{MemoryAnswers}
 use Rattle.rv_exec.specs.Follows.{word_in}
 use Rattle.quantum_run.specs.Answering.{Places, Still, run_answers}
-use Rattle.quantum_run.specs.declared.slot.Slot.{Slot}
+use Rattle.page_store.specs.declared.compared.Slot.{Slot}
 use Rattle.quantum_run.specs.Finding.{AreFramesOf, page_start}
 use Rattle.quantum_run.specs.Knowing.{AreSameAround, IsLineFor}
 use Rattle.quantum_run.specs.Knowing.{code_place, empty_slot, slot_of}

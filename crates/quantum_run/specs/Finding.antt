@@ -12,7 +12,8 @@ use Rattle.dos_world.specs.declared.Owner.TheVariants.{Free}
 use Rattle.dos_world.specs.declared.Reason.{Reason}
 use Rattle.dos_world.specs.declared.Reason.TheVariants.{Page, Fault}
 use Rattle.dos_world.specs.declared.Size.{Size}
-use Rattle.quantum_run.specs.declared.slot.Slot.{Slot}
+pub use Rattle.page_store.specs.Compared.{no_start, page_start}
+use Rattle.page_store.specs.declared.compared.Slot.{Slot}
 
 -- the frame of an entry for an access of t, or why the access is refused: it lacks the right, or
 -- the page is another's
@@ -40,14 +41,6 @@ frame_for_size t owners entries access size address =
 
 abbrev pub frame_of : Entry → ℕ
 frame_of e = e.frame
-
--- the first address of an address's page
-abbrev pub page_start : ℕ → ℕ
-page_start address = address / 4096 * 4096
-
--- the start of a slot that has found nothing: no page begins there
-abbrev pub no_start : ℕ
-no_start = 0xFFFFFFFF
 
 -- A page begins at the start, unless nothing is found. And each access of t to the page that begins
 -- there would find this frame.

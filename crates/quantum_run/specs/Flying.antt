@@ -12,7 +12,7 @@ use Rattle.rv_exec.specs.declared.next.Next.{Next}
 use Rattle.rv_exec.specs.declared.next.Next.TheVariants.{On, Short, To, Not}
 use Rattle.code_pages.specs.Lines.{AreKnownPages, Known}
 use Rattle.code_pages.specs.declared.line.Line.{Line}
-use Rattle.quantum_run.specs.declared.slot.Slot.{Slot}
+use Rattle.page_store.specs.declared.compared.Slot.{Slot}
 use Rattle.quantum_run.specs.Finding.{page_start}
 use Rattle.quantum_run.specs.Knowing.{IsLineFor}
 

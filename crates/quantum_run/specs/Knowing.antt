@@ -1,54 +1,12 @@
 -- Which pages of code are known, while a thread runs: those that a fetch has found, and of them the
--- blocks of 256 bytes that have been compared. This project's own rules.
+-- blocks of 256 bytes that have been compared, as page_store says it. This project's own rules.
 use Rattle.std.specs.Prelude.{ℕ, ◌≡◌, ◌≢◌, ◌+◌, ◌*◌, ◌⊎◌, ◌<◌, ◌≤◌, ◌/◌, ◌%◌, ◌^◌, Bool, true, List}
 use Rattle.std.specs.Prelude.{All, Option, Some, false, slice_get, slice_index, slice_index_or}
-use Rattle.page_store.specs.Store.{whole}
 use Rattle.code_pages.specs.Lines.{IsStartIn, Known}
-use Rattle.quantum_run.specs.declared.slot.Slot.{Slot}
-use Rattle.quantum_run.specs.Finding.{no_start, page_start}
-
--- a slot that has found nothing
-abbrev pub empty_slot : Slot
-empty_slot = record { start = no_start; frame = 0xFFFFFFFF }
-
--- the slot of an address's page, of 64
-abbrev pub slot_of : List Slot → ℕ → Slot
-slot_of slots address = slice_index_or slots (address / 4096 % 64) empty_slot
-
--- the place of an address's page among the pages of code that are known, of 256
-abbrev pub code_place : ℕ → ℕ
-code_place address = address / 4096 % 256
-
--- ---- what has been compared
-
--- where it stands whether the block of an address has been compared: 16 blocks for each slot
-abbrev pub block_place : ℕ → ℕ
-block_place address = address / 4096 % 64 * 16 + address % 4096 / 256
-
--- Two pages have the same bytes in the block of an offset, and in the halfword behind it.
-abbrev pub AreSameAround : (offset : ℕ) → (a b : List ℕ) → Type 0
-AreSameAround offset a b = (i : ℕ) → offset / 256 * 256 ≤ i → i < offset / 256 * 256 + 258
-    → i < 4096 → slice_index a i ≡ slice_index b i
-
--- The page of an address is known, and around it has the bytes of the frame that a fetch finds.
-pub record IsRightAt (shown : List Slot) (pages known : List (Option (List ℕ))) (address : ℕ)
-    : Type 0 where
-  pub own : List ℕ
-  pub here : slice_get known (code_place address) ≡ Some (Some own)
-  pub page : List ℕ
-  pub there : slice_get pages (slot_of shown address).frame ≡ Some (Some page)
-  pub same : AreSameAround (address % 4096) own (whole page)
-
--- A fetch has found the page of this address, and the block there has been compared.
-pub record IsCompared (shown : List Slot) (compared : List Bool) (address : ℕ) : Type 0 where
-  pub found : (slot_of shown address).start ≡ page_start address
-  pub is : slice_get compared (block_place address) ≡ Some true
-
--- Each block that has been compared is right: `known` has the bytes of the pages that are known, by
--- their places.
-abbrev pub AreRight : List Slot → List Bool → (pages known : List (Option (List ℕ))) → Type 0
-AreRight shown compared pages known = (address : ℕ) → address < 2 ^ 32
-    → IsCompared shown compared address → IsRightAt shown pages known address
+pub use Rattle.page_store.specs.Compared.{AreRight, AreSameAround, IsCompared, IsRightAt}
+pub use Rattle.page_store.specs.Compared.{block_place, code_place, empty_slot, slot_of}
+use Rattle.page_store.specs.Compared.{no_start}
+use Rattle.page_store.specs.declared.compared.Slot.{Slot}
 
 -- What was right is still, whichever pages are known.
 abbrev pub KeepsRight : List Slot → List Bool → List (Option (List ℕ))

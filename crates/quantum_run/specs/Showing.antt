@@ -2,7 +2,7 @@
 use Rattle.std.specs.Prelude.{ℕ, ◌≡◌, Bool, true, false, List, Option, Result, Ok}
 use Rattle.dos_world.specs.declared.Reason.{Reason}
 use Rattle.flat_machine.specs.Over.{MemoryAnswers}
-use Rattle.quantum_run.specs.declared.slot.Slot.{Slot}
+use Rattle.page_store.specs.declared.compared.Slot.{Slot}
 use Rattle.quantum_run.specs.Answering.{Places, Still, run_answers}
 use Rattle.quantum_run.specs.Knowing.{AreRight}
 

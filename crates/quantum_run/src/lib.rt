@@ -11,7 +11,6 @@ mod pack;
 mod page_places;
 mod pages;
 mod run;
-mod slot;
 mod slots;
 mod slowly;
 mod thread_memory;

@@ -9,8 +9,8 @@ ghost use Rattle.quantum_run.specs.Knowing.{IsUncompared};
 ghost use Rattle.quantum_run.specs.Knowing.{code_place};
 ghost use Rattle.quantum_run.specs.Knowing.{empty_slot};
 
-use crate::slot::Slot;
 use dos_world::Size;
+use page_store::Slot;
 
 /// The start of a slot that has found nothing: no page begins there.
 pub const NO_START: u32 = 0xffff_ffff;

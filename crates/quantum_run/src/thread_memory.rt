@@ -18,13 +18,13 @@ ghost use Rattle.quantum_run.specs.Knowing.{KeepsRight, slot_of};
 ghost use Rattle.quantum_run.specs.Pages.{AreReached, AreOwn, AreWithin, IsPageHere};
 
 use crate::pages::Pages;
-use crate::slot::Slot;
 use crate::slots::{
     NO_START, aligned_offset, aligned_start, code_place, finds_frame, forget_blocks, forget_frame,
     hide_frame, keep_frame, mark_place, nothing_found, slot_place, start_of,
 };
 use code_pages::CodePages;
 use dos_world::{Access, Entry, Reason, Size};
+use page_store::Slot;
 use rv_exec::Memory;
 use space_map::Space;
 

@@ -10,7 +10,7 @@ use Rattle.quantum_run.specs.Answering.{Still, run_answers, still}
 use Rattle.quantum_run.specs.Showing.{ShowsKnown}
 use Rattle.quantum_run.specs.ThreadRuns.{AreElsewhere, AreOutside, Reaches, ReachesIn}
 use Rattle.quantum_run.proofs.Elsewhere.{none-made, then-elsewhere}
-use Rattle.quantum_run.specs.declared.slot.Slot.{Slot}
+use Rattle.page_store.specs.declared.compared.Slot.{Slot}
 use Rattle.quantum_run.specs.declared.thread_memory.Running.{Running}
 use Rattle.quantum_run.specs.Knowing.{empty_slot}
 use Rattle.std.specs.Prelude.{slice_index_or}

@@ -18,7 +18,7 @@ use Rattle.quantum_run.specs.Answering.{Still, run_answers, still}
 use Rattle.quantum_run.specs.Showing.{ShowsKnown, answers_of}
 use Rattle.quantum_run.specs.ThreadRuns.{AreElsewhere, Reaches}
 use Rattle.quantum_run.proofs.Elsewhere.{none-made, one-elsewhere}
-use Rattle.quantum_run.specs.declared.slot.Slot.{Slot}
+use Rattle.page_store.specs.declared.compared.Slot.{Slot}
 use Rattle.quantum_run.specs.declared.thread_memory.Running.{Running}
 use Rattle.quantum_run.proofs.RunSteps.{reaches-none}
 use Rattle.quantum_run.proofs.Walking.{Some-line, got-line, got-within, goes-behind, line-done}

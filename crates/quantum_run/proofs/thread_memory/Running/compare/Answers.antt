@@ -2,7 +2,7 @@ use Rattle.std.proofs.Common.{◌+◌, ◌*◌, ◌/◌, ◌%◌, ◌<◌, ◌�
 use Rattle.std.proofs.Common.{sym}
 use Rattle.std.proofs.Common.{slice_get}
 use Rattle.code_pages.specs.Lines.{bytes_of_pages}
-use Rattle.quantum_run.specs.declared.slot.Slot.{Slot}
+use Rattle.page_store.specs.declared.compared.Slot.{Slot}
 use Rattle.quantum_run.specs.Knowing.{block_place}
 use Rattle.quantum_run.proofs.Comparing.{right-compared, slot-here}
 use Rattle.quantum_run.proofs.thread_memory.Running.compare.Goals as goal

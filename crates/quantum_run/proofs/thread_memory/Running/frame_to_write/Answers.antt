@@ -1,6 +1,6 @@
 use Rattle.std.proofs.Common.{rules, ◌<◌, ◌∙◌, length, sym, arith, refl}
 use Rattle.dos_world.specs.declared.Access.TheVariants.{Store}
-use Rattle.quantum_run.specs.declared.slot.Slot.{Slot}
+use Rattle.page_store.specs.declared.compared.Slot.{Slot}
 use Rattle.quantum_run.proofs.Places.{aligned-found, sized, writes-found}
 use Rattle.quantum_run.proofs.thread_memory.Running.frame_to_write.Goals as goal
 

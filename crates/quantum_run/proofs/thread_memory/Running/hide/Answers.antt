@@ -1,5 +1,5 @@
 use Rattle.dos_world.specs.declared.Access.TheVariants.{Fetch}
-use Rattle.quantum_run.specs.declared.slot.Slot.{Slot}
+use Rattle.page_store.specs.declared.compared.Slot.{Slot}
 use Rattle.quantum_run.specs.Finding.{IsFrameOf}
 use Rattle.quantum_run.proofs.Apart.{apart-hidden, hidden-slot, marked-hidden}
 use Rattle.quantum_run.proofs.Comparing.{keeps-hidden}

@@ -1,6 +1,6 @@
 use Rattle.dos_world.specs.declared.Access.TheVariants.{Fetch, Load, Store}
 use Rattle.std.proofs.Common.{List, false, replicate, sym, subst}
-use Rattle.quantum_run.specs.declared.slot.Slot.{Slot}
+use Rattle.page_store.specs.declared.compared.Slot.{Slot}
 use Rattle.quantum_run.specs.Knowing.{SlotsAreMarked, FetchesAreApart}
 use Rattle.quantum_run.proofs.Apart.{apart-none, marked-none}
 use Rattle.quantum_run.proofs.Places.{none-found}

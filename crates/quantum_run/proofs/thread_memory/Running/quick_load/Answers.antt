@@ -3,7 +3,7 @@ use Rattle.dos_world.specs.declared.Access.TheVariants.{Load}
 use Rattle.flat_machine.specs.Over.{MemoryAnswers}
 use Rattle.page_store.specs.Store.{joined}
 use Rattle.quantum_run.specs.Answering.{still}
-use Rattle.quantum_run.specs.declared.slot.Slot.{Slot}
+use Rattle.page_store.specs.declared.compared.Slot.{Slot}
 use Rattle.quantum_run.proofs.Places.{aligned-found}
 use Rattle.quantum_run.proofs.Reaching.{aligned-frame, as-shown, read-found}
 use Rattle.quantum_run.proofs.thread_memory.Running.quick_load.Goals as goal

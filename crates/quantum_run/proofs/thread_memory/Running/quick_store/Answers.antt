@@ -5,7 +5,7 @@ use Rattle.dos_world.specs.declared.Access.TheVariants.{Store}
 use Rattle.flat_machine.specs.Over.{MemoryAnswers}
 use Rattle.quantum_run.specs.Answering.{still}
 use Rattle.quantum_run.specs.Showing.{ShowsKnown, StoresOrNot, answers_of}
-use Rattle.quantum_run.specs.declared.slot.Slot.{Slot}
+use Rattle.page_store.specs.declared.compared.Slot.{Slot}
 use Rattle.quantum_run.proofs.Places.{aligned-found}
 use Rattle.quantum_run.proofs.Reaching.{aligned-frame, as-shown, stored-found}
 use Rattle.quantum_run.proofs.thread_memory.Running.quick_store.Goals as goal

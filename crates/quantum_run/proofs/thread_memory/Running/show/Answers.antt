@@ -1,6 +1,6 @@
 use Rattle.std.proofs.Common.{ℕ, inl, inr, List, refl, rules, set, subst, sym}
 use Rattle.dos_world.specs.declared.Access.TheVariants.{Fetch, Store}
-use Rattle.quantum_run.specs.declared.slot.Slot.{Slot}
+use Rattle.page_store.specs.declared.compared.Slot.{Slot}
 use Rattle.quantum_run.specs.Finding.{AreFramesOf, IsFrameOf}
 use Rattle.quantum_run.specs.Knowing.{SlotsAreMarked, FetchesAreApart}
 use Rattle.quantum_run.proofs.Apart.{apart-none, apart-shown, marked-more, marked-none}

@@ -1,7 +1,7 @@
 use Rattle.std.proofs.Common.{◌≡◌, ◌<◌, ◌/◌, ◌%◌, Bool, List, Ok, length, rules, set, subst}
 use Rattle.std.proofs.Common.{sym, true}
 use Rattle.dos_world.specs.declared.Access.TheVariants.{Store}
-use Rattle.quantum_run.specs.declared.slot.Slot.{Slot}
+use Rattle.page_store.specs.declared.compared.Slot.{Slot}
 use Rattle.quantum_run.specs.Finding.{frame_for, page_start}
 use Rattle.quantum_run.specs.Knowing.{SlotsAreMarked}
 use Rattle.quantum_run.specs.Answering.{Still}

@@ -1,7 +1,7 @@
 use Rattle.std.proofs.Common.{rules, ◌/◌, ◌%◌, ◌∙◌, List, ap, set, subst, sym, true}
 use Rattle.dos_world.specs.Reach.{is_foreign}
 use Rattle.dos_world.specs.declared.Access.TheVariants.{Store}
-use Rattle.quantum_run.specs.declared.slot.Slot.{Slot}
+use Rattle.page_store.specs.declared.compared.Slot.{Slot}
 use Rattle.quantum_run.specs.Finding.{page_start}
 use Rattle.quantum_run.specs.Knowing.{SlotsAreMarked}
 use Rattle.quantum_run.proofs.Apart.{apart-stored, marked-more}
