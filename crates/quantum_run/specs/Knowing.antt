@@ -1,7 +1,7 @@
 -- Which pages of code are known, while a thread runs: those that a fetch has found, and of them the
 -- blocks of 256 bytes that have been compared, as page_store says it. This project's own rules.
-use Rattle.std.specs.Prelude.{ℕ, ◌≡◌, ◌≢◌, ◌+◌, ◌*◌, ◌⊎◌, ◌<◌, ◌≤◌, ◌/◌, ◌%◌, ◌^◌, Bool, true, List}
-use Rattle.std.specs.Prelude.{All, Option, Some, false, slice_get, slice_index, slice_index_or}
+use Rattle.std.specs.Prelude.{ℕ, ◌≡◌, ◌≢◌, ◌⊎◌, ◌<◌, ◌/◌, ◌%◌, Bool, true, List}
+use Rattle.std.specs.Prelude.{All, Option, Some, false, slice_get, slice_index_or}
 use Rattle.code_pages.specs.Lines.{IsStartIn, Known}
 pub use Rattle.page_store.specs.Compared.{AreRight, AreSameAround, IsCompared, IsRightAt}
 pub use Rattle.page_store.specs.Compared.{block_place, code_place, empty_slot, slot_of}
