@@ -15,6 +15,7 @@ use Rattle.flat_machine.specs.Laws.{AreAlike}
 use Rattle.flat_machine.specs.Laws.{kept}
 use Rattle.flat_machine.specs.Alone.{steps}
 use Rattle.flat_machine.specs.Laws.{without_progress, DiffersInOwn}
+use Rattle.written_words.specs.declared.Written.{Written}
 use Rattle.quantum_run.specs.Pages.{is_here, overlay}
 use Rattle.quantum_run.specs.Packs.{IsPacked, bytes_of_frame, paired}
 use Rattle.quantum_run.specs.ThreadRuns.{IsRunOf, run_to, store_of}
@@ -62,7 +63,7 @@ pub Some-some : {a b : List (ℕ × Entry)}
     → ◌≡◌ {A = Option (Option (List (ℕ × Entry)))} (Some (Some a)) (Some (Some b)) → a ≡ b
 Some-some q = cc
 
-module _ (t pid : ℕ) (r : Registers) (budget : ℕ) (held : List ℕ)
+module _ (t pid : ℕ) (r : Registers) (budget : ℕ) (words : Option (List Written)) (held : List ℕ)
     (table lent : List (Option (List ℕ))) (capacity : ℕ) (owners : List Owner)
     (spaces : List (Option (List (ℕ × Entry)))) (entries : List (ℕ × Entry))
     (packed : IsPacked held table capacity) (level : length table ≡ length lent)
@@ -86,6 +87,7 @@ module _ (t pid : ℕ) (r : Registers) (budget : ℕ) (held : List ℕ)
     pages =
         paired held table;
     room = length table;
+    words = words;
   }
 
   abbrev now : Pack
@@ -97,6 +99,7 @@ module _ (t pid : ℕ) (r : Registers) (budget : ℕ) (held : List ℕ)
     pages =
         paired held after;
     room = length after;
+    words = words;
   }
 
   module _ (w : World) (shows : Shows before view w) where

@@ -6,6 +6,7 @@ use Rattle.std.proofs.Common.{length-set, length-append}
 use Rattle.page_store.specs.Store.{whole, shown}
 use Rattle.dos_world.specs.World.{Registers}
 use Rattle.quantum_run.specs.Shows.{Pack}
+use Rattle.written_words.specs.declared.Written.{Written}
 use Rattle.quantum_run.specs.Pages.{is_here}
 use Rattle.quantum_run.specs.Packs.{IsPacked, bytes_of_frame, how_many, paired}
 use Rattle.quantum_run.proofs.Overlay.{here-within}
@@ -272,12 +273,20 @@ module _ (held : List ℕ) (table : Table) (capacity f : ℕ)
       (ap bytes_of h)
       ∙ ap (λ rest. rest ++ (f, whole page) ∷ []) (sym (paired-other held table f None is-other))
 
-abbrev packing : ℕ → ℕ → Registers → ℕ → List (ℕ × List ℕ) → ℕ → Pack
-packing t p r b pages room =
-    record { thread = t; process = p; registers = r; budget = b; pages = pages; room = room }
+-- a pack of these
+abbrev pub packing : ℕ → ℕ → Registers → ℕ → Option (List Written) → List (ℕ × List ℕ) → ℕ → Pack
+packing t p r b words pages room = record {
+  thread = t;
+  process = p;
+  registers = r;
+  budget = b;
+  pages = pages;
+  room = room;
+  words = words;
+}
 
-pub packed-view : (t p : ℕ) (r : Registers) (b : ℕ) (pages after : List (ℕ × List ℕ))
-    (room left : ℕ) → after ≡ pages → left ≡ room
-    → packing t p r b after left ≡ packing t p r b pages room
-packed-view t p r b pages after room left same level = ap (λ ps. packing t p r b ps left) same
-    ∙ ap (packing t p r b pages) level
+pub packed-view : (t p : ℕ) (r : Registers) (b : ℕ) (words : Option (List Written))
+    (pages after : List (ℕ × List ℕ)) (room left : ℕ) → after ≡ pages → left ≡ room
+    → packing t p r b words after left ≡ packing t p r b words pages room
+packed-view t p r b words pages after room left same level =
+    ap (λ ps. packing t p r b words ps left) same ∙ ap (packing t p r b words pages) level

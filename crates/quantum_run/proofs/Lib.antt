@@ -1,6 +1,9 @@
 pub mod Spaces
 pub mod Places
 pub mod Apart
+pub mod Paged
+pub mod Owned
+pub mod Buffers
 pub mod Reaching
 pub mod RunSteps
 pub mod Flying
@@ -19,6 +22,7 @@ pub mod Keeping
 pub mod Comparing
 pub mod Words
 pub mod Slices
+pub mod Writing
 pub mod Ready
 pub mod Mix
 mod UnderWay

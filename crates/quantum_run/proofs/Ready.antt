@@ -17,17 +17,18 @@ use Rattle.flat_machine.specs.Alone.{steps}
 use Rattle.quantum_run.specs.Finding.{frame_for, IsWriting}
 use Rattle.quantum_run.specs.Pages.{is_here, overlay}
 use Rattle.quantum_run.specs.Packs.{IsPacked, paired, space_held, view_of}
-use Rattle.quantum_run.specs.Shows.{Pack, View, CanRun, LeadsTo, RanFor, RanOut, Shows}
+use Rattle.written_words.specs.declared.Written.{Written}
+use Rattle.quantum_run.specs.Shows.{Pack, View, CanRunOwning, RanForOwning, RanOutOwning, Shows}
 use Rattle.quantum_run.specs.ThreadRuns.{IsRunOf, run_to, store_of}
 use Rattle.flat_machine.specs.Laws.{after_steps}
 use Rattle.flat_machine.proofs.After.{steps-all}
 use Rattle.quantum_run.proofs.Finishing.{finished, Some-some}
 use Rattle.quantum_run.proofs.Packing.{all-reached, all-own, frames-paired}
 use Rattle.quantum_run.proofs.Parts.{steps-run, stops-here, stops-out}
-use Rattle.quantum_run.proofs.Slices.{leads, runs-out}
+use Rattle.quantum_run.proofs.Slices.{LeadsToOwning, leads, runs-out}
 
 -- the space that was looked up is the one that the view shows
-space-entries : (processes : List Process) (pid : ℕ) (entries found : List (ℕ × Entry))
+pub space-entries : (processes : List Process) (pid : ℕ) (entries found : List (ℕ × Entry))
     → numbered (map space_held processes) pid ≡ Some (Some entries)
     → IfSome (held_in processes pid) (λ h. found ≡ h.space) → found ≡ entries
 space-entries processes zero entries found h e = cc
@@ -55,7 +56,7 @@ pub floor-left : (B : Reason → Type 0) (stop : Option Reason) (left floor : �
 floor-left B None left floor on at = at
 floor-left B (Some reason) left floor on at = cc
 
-module _ (t pid : ℕ) (r : Registers) (budget : ℕ) (held : List ℕ)
+module _ (t pid : ℕ) (r : Registers) (budget : ℕ) (words : Option (List Written)) (held : List ℕ)
     (table : List (Option (List ℕ))) (capacity : ℕ) (packed : IsPacked held table capacity)
     (frames : Store) (tables : Tables) (entries : List (ℕ × Entry))
     (found : IfSome (held_in tables.processes pid) (λ (h : Holdings). entries ≡ h.space))
@@ -66,8 +67,9 @@ module _ (t pid : ℕ) (r : Registers) (budget : ℕ) (held : List ℕ)
       budget = budget;
       pages = paired held table;
       room = length table;
+      words = words;
     } ≡ p)
-    (able : CanRun p (view_of frames tables)) where
+    (able : CanRunOwning p (view_of frames tables)) where
   abbrev view : View
   view = view_of frames tables
 
@@ -79,10 +81,11 @@ module _ (t pid : ℕ) (r : Registers) (budget : ℕ) (held : List ℕ)
     budget = budget;
     pages = paired held table;
     room = length table;
+    words = words;
   }
 
-  can : CanRun before view
-  can = subst (λ (q : Pack). CanRun q view) (sym is) able
+  can : CanRunOwning before view
+  can = subst (λ (q : Pack). CanRunOwning q view) (sym is) able
 
   same-space : entries ≡ can.entries
   same-space = space-entries tables.processes pid can.entries entries can.space found
@@ -137,6 +140,7 @@ module _ (t pid : ℕ) (r : Registers) (budget : ℕ) (held : List ℕ)
       budget = left;
       pages = paired held after;
       room = length after;
+      words = words;
     }
 
     abbrev IsRun : World → Type 0
@@ -148,7 +152,7 @@ module _ (t pid : ℕ) (r : Registers) (budget : ℕ) (held : List ℕ)
     shown : (n : ℕ) → ((u : World) → IsRun u → steps n u t ≡ end u)
         → (w : World) → Shows before view w → Shows now view (steps n w t)
     shown n ends =
-        finished t pid r budget held table frames.pages capacity frames.owners
+        finished t pid r budget words held table frames.pages capacity frames.owners
         (map space_held tables.processes) entries packed level as_many
         (can.space ∙ ap (λ x. Some (Some x)) (sym same-space))
         (λ i frame at. can.owned i frame
@@ -158,21 +162,21 @@ module _ (t pid : ℕ) (r : Registers) (budget : ℕ) (held : List ℕ)
         IsRunOf u (store_of frames.owners (overlay table frames.pages)) entries t x budget)
         (sym begins) run))
 
-    pub slice-out : (is_some stop ≡ true) ⊎ (floor ≡ 0) → RanOut p view now
-    slice-out out = subst (λ (q : Pack). RanOut q view now) is
+    pub slice-out : (is_some stop ≡ true) ⊎ (floor ≡ 0) → RanOutOwning p view now
+    slice-out out = subst (λ (q : Pack). RanOutOwning q view now) is
         (runs-out before view now (shown budget (λ u run.
         steps-run budget left u (end u) t stop within (runs u run)
         (stops-out stop floor left t (end u) out
         (stops-here stop floor left t IsRun end u run stops)))))
 
-    pub slice-leads : LeadsTo p view now
-    slice-leads = subst (λ (q : Pack). LeadsTo q view now) is
+    pub slice-leads : LeadsToOwning p view now
+    slice-leads = subst (λ (q : Pack). LeadsToOwning q view now) is
         (leads before view now (budget - left) refl (omega (arith, within))
         (shown (budget - left) (λ u run.
         steps-all (budget - left) u (end u) t (runs u run))))
 
-    pub slice-part : (most : ℕ) → budget - left ≡ most → RanFor most p view now
-    slice-part most count = subst (λ (q : Pack). RanFor most q view now) is
+    pub slice-part : (most : ℕ) → budget - left ≡ most → RanForOwning most p view now
+    slice-part most count = subst (λ (q : Pack). RanForOwning most q view now) is
         (shown most (λ u run.
         ap (λ n. steps n u t) (sym count)
         ∙ steps-all (budget - left) u (end u) t (runs u run)))

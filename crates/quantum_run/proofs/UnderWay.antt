@@ -1,5 +1,5 @@
 -- Packs whose parts are under way show a mix of instructions, in whatever order they come.
-use Rattle.std.proofs.Common.{ℕ, zero, suc, ◌-◌, ◌≤◌, ◌≡◌, ◌≢◌, inl, inr, refl, sym, ap, ◌∙◌}
+use Rattle.std.proofs.Common.{ℕ, zero, suc, ◌+◌, ◌-◌, ◌≤◌, ◌≡◌, ◌≢◌, inl, inr, refl, sym, ap, ◌∙◌}
 use Rattle.std.proofs.Common.{subst, Bool, cond, true, false, not, eqb, eqb-true, List, [], ◌∷◌}
 use Rattle.std.proofs.Common.{Option, Some, None, option_map, Result, Ok, Err, arith}
 use Rattle.std.specs.Prelude.{fold, ◌&&◌, ◌==◌}
@@ -18,12 +18,13 @@ use Rattle.flat_machine.proofs.After.{steps-ok, steps-split, steps-stopped}
 use Rattle.round_core.proofs.Commute.{Among, Apart, active, active_in, budget_in, paid-budget}
 use Rattle.round_core.proofs.Commute.{places-apart, ready-in, ready_of-change, stepped-idle}
 use Rattle.round_core.proofs.Commute.{stepped-ok, stepped-others, stepped-stop}
-use Rattle.quantum_run.specs.Shows.{Pack, View, Shows}
+use Rattle.quantum_run.specs.Shows.{Pack, View, RanForOwning, Shows}
 use Rattle.quantum_run.specs.Laws.{EndsAreUnderWay, SlicesAddUp}
 use Rattle.quantum_run.specs.Mix.{RanAsNamed, times_named}
 use Rattle.quantum_run.proofs.Mix.{shows-kept, shows-stepped}
 use Rattle.quantum_run.proofs.Parts.{budget-is}
 use Rattle.quantum_run.proofs.Slices.{begun-shows}
+use Rattle.quantum_run.proofs.Writing.{for-nothing, out-is-for, slices-writing}
 
 differ : (a b : ℕ) → a ≡ b → eqb a b ≡ false → ⊥
 differ a b h e = grind (arith, h, e)
@@ -288,16 +289,27 @@ under-way w order v t opening pack among h =
 
 -- ---- slices
 
-pub slices-add-up : SlicesAddUp
-slices-add-up n m p q r v same first second = λ w shows.
+slices-owning : (n m : ℕ) (p q r : Pack) (v : View) → q.thread ≡ p.thread → RanForOwning n p v q
+    → RanForOwning m q v r → RanForOwning (n + m) p v r
+slices-owning n m p q r v same first second = λ w shows.
     subst (λ k. Shows r v k)
     (ap (λ k. steps m (steps n w p.thread) k) same ∙ sym (steps-split n m w p.thread))
     (second (steps n w p.thread) (first w shows))
 
+pub slices-add-up : SlicesAddUp
+slices-add-up n m p q r v same scheme first second = record {
+  owning = λ none.
+      slices-owning n m p q r v same (first.owning none) (second.owning (scheme ∙ none));
+  writing = slices-writing n m p q r v first.writing second.writing;
+}
+
 pub under-way-ends : (p q : Pack) (v : View) → EndsAreUnderWay p q v
 under-way-ends p q v = record {
-  out = λ ran w shows.
-      subst (λ n. Shows q v (steps n w p.thread))
-      (budget-is w p.thread p.registers p.budget shows.thread) (ran w shows);
-  begun = λ w shows. shows;
+  out = λ ran. record {
+    owning = λ none w shows.
+        subst (λ n. Shows q v (steps n w p.thread))
+        (budget-is w p.thread p.registers p.budget shows.thread) (ran.owning none w shows);
+    writing = out-is-for p q v ran.writing;
+  };
+  begun = record { owning = λ none w shows. shows; writing = for-nothing p v };
 }

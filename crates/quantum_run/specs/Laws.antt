@@ -5,12 +5,18 @@ use Rattle.dos_world.specs.Lawful.{Lawful}
 use Rattle.dos_world.specs.World.{World, Registers, ready_threads, released}
 use Rattle.dos_world.specs.declared.Entry.{Entry}
 use Rattle.dos_world.specs.declared.Reason.{Reason}
-use Rattle.page_store.specs.Store.{Store}
+use Rattle.page_store.specs.Store.{Store, joined}
+use Rattle.written_words.specs.declared.Written.{Written}
+use Rattle.rv_exec.specs.Runs.{GoesTo}
+use Rattle.flat_machine.specs.Buffered.{part, part_from}
+use Rattle.flat_machine.specs.Over.{one_in}
 use Rattle.flat_machine.specs.Step.{step}
 use Rattle.flat_machine.specs.Alone.{emptied, alone}
 use Rattle.flat_machine.specs.Mixed.{mixed}
 use Rattle.flat_machine.specs.Laws.{after_steps}
-use Rattle.quantum_run.specs.Shows.{Pack, View, RanFor, RanOut, Shows}
+use Rattle.quantum_run.specs.Answering.{run_answers}
+use Rattle.quantum_run.specs.Buffering.{SeesFrames, buffer_places, still_for}
+use Rattle.quantum_run.specs.Shows.{Pack, View, RanFor, RanOut, Shows, has_words}
 use Rattle.quantum_run.specs.Mix.{turns_of, members, HaveBegun, RanAsNamed, PacksShow}
 use Rattle.quantum_run.specs.ThreadRuns.{IsRunOf, run_to}
 
@@ -38,6 +44,21 @@ RunsAreParts = (w : World) (s : Store) (entries : List (ℕ × Entry)) (t : ℕ)
     → step (run_to u t pages after left) t ≡ Err reason))
     → alone w t ≡ run_to w t pages after left
 
+-- What is said of a run over these frames and places for words is said of the part of a thread in
+-- the buffered scheme, in each world that has these frames and this space: from where it stands the
+-- part ends where the run does.
+abbrev pub BufferedRunsAreParts : Type 0
+BufferedRunsAreParts = (s : Store) (entries : List (ℕ × Entry)) (t : ℕ) (r after : Registers)
+    (words now : List Written) (budget left : ℕ) (stop : Option Reason)
+    → left ≤ budget
+    → GoesTo (run_answers (still_for t s.owners entries) (buffer_places (joined s.pages)))
+    (budget - left) r words after now
+    → MatchOption stop (left ≡ 0) (λ reason.
+    one_in (run_answers (still_for t s.owners entries) (buffer_places (joined s.pages))) after now
+    ≡ Err reason)
+    → (w : World) → SeesFrames s entries t w
+    → part_from w t budget r words ≡ part after left now
+
 -- ---- packs
 
 -- Where some of the packs are their threads' whole parts and the others unbegun, each shows the
@@ -59,8 +80,8 @@ PacksUnderWayAreAMix = (w : World) (order : List ℕ) (v : View) (i t : ℕ) (op
 
 -- What a pack has run in slices adds up.
 abbrev pub SlicesAddUp : Type 0
-SlicesAddUp = (n m : ℕ) (p q r : Pack) (v : View) → q.thread ≡ p.thread → RanFor n p v q
-    → RanFor m q v r → RanFor (n + m) p v r
+SlicesAddUp = (n m : ℕ) (p q r : Pack) (v : View) → q.thread ≡ p.thread
+    → has_words q ≡ has_words p → RanFor n p v q → RanFor m q v r → RanFor (n + m) p v r
 
 -- A pack that has run out has run for its whole budget, and one that has only begun for nothing.
 pub record EndsAreUnderWay (p q : Pack) (v : View) : Type 0 where

@@ -4,6 +4,8 @@ pub mod Finding
 pub mod Knowing
 pub mod Pages
 pub mod Answering
+pub mod Buffering
+pub mod Reading
 pub mod Showing
 pub mod Mix
 pub mod Laws

@@ -5,7 +5,7 @@ use Rattle.std.specs.Prelude.{None, IfSome, IsTrue, slice_get, if◌then◌else�
 use Rattle.dos_world.specs.World.{World, thread_at, ready_threads, is_state}
 use Rattle.dos_world.specs.declared.ThreadState.TheVariants.{Ready}
 use Rattle.flat_machine.specs.Alone.{alone}
-use Rattle.quantum_run.specs.Shows.{Pack, View, RanFor, Shows, begun_pack}
+use Rattle.quantum_run.specs.Shows.{Pack, View, RanForOwning, Shows, begun_pack}
 
 -- each of these so many times, one after another
 abbrev pub turns_of : ℕ → List ℕ → List ℕ
@@ -31,7 +31,7 @@ pub record RanAsNamed (w : World) (order : List ℕ) (v : View) (t : ℕ) (openi
   pub same : pack.thread ≡ t
   pub shows : Shows opening v w
   pub paid : times_named t order ≤ opening.budget
-  pub ran : RanFor (times_named t order) (begun_pack opening) v pack
+  pub ran : RanForOwning (times_named t order) (begun_pack opening) v pack
 
 -- The ready threads have the quantum as their budget, and no reservation.
 abbrev pub HaveBegun : World → Type 0

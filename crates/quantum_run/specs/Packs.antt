@@ -6,6 +6,7 @@ use Rattle.dos_world.specs.declared.Entry.{Entry}
 use Rattle.dos_world.specs.Registers.{Registers, blank}
 use Rattle.page_store.specs.Store.{Store, whole, shown}
 use Rattle.proc_table.specs.Tables.{Tables}
+use Rattle.written_words.specs.declared.Written.{Written}
 use Rattle.quantum_run.specs.Pages.{is_here}
 use Rattle.quantum_run.specs.Shows.{Pack, View}
 use Rattle.quantum_run.specs.declared.pack.Shared.{Shared as SharedOf}
@@ -46,11 +47,29 @@ empty_pack room = record {
   budget = 0;
   pages = [];
   room = room;
+  words = None;
 }
 
+-- no thread, no pages, and no words yet
+abbrev pub empty_writing : Pack
+empty_writing = record (empty_pack 0) { words = Some [] }
+
+-- no words, where there were some
+abbrev pub without_words : Option (List Written) → Option (List Written)
+without_words words = option_map (λ _. []) words
+
+-- the words that a pack has; none in the ownership scheme
+abbrev pub words_held : Pack → List Written
+words_held p = elim p.words [ None ↦ [] | Some words ↦ words ]
+
 abbrev pub with_thread_of : Pack → (thread process : ℕ) → Registers → ℕ → Pack
-with_thread_of p thread process registers budget =
-    record p { thread = thread; process = process; registers = registers; budget = budget }
+with_thread_of p thread process registers budget = record p {
+  thread = thread;
+  process = process;
+  registers = registers;
+  budget = budget;
+  words = without_words p.words;
+}
 
 -- one page more
 abbrev pub with_own_page : Pack → ℕ → List ℕ → Pack

@@ -2,6 +2,7 @@
 //! of its own with the frames lent.
 #![tactic(auto)]
 
+mod buffered;
 mod extent;
 mod flight;
 pub mod laws;

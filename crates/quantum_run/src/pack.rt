@@ -1,21 +1,22 @@
 // A thread with the pages that are its own, apart from the frames.
 ghost use Rattle.std.specs.Prelude.{◌≡◌, ◌<◌, ◌≤◌, ◌+◌, ◌++◌, ◌∷◌, [], length, map, replicate};
-ghost use Rattle.std.specs.Prelude.{true, false, None, IfOk, MatchOption};
+ghost use Rattle.std.specs.Prelude.{true, false, Some, None, IfOk, MatchOption};
 ghost use Rattle.page_store.specs.Store.{whole};
 ghost use Rattle.quantum_run.specs.Shows.{CanRun, Finished, LeadsTo, RanFor, RanOut, begun_pack};
-ghost use Rattle.quantum_run.specs.Shows.{frames_of};
-ghost use Rattle.quantum_run.specs.Packs.{HoldsNo, empty_pack, seen_by_view, seen_in};
-ghost use Rattle.quantum_run.specs.Packs.{with_own_page};
-ghost use Rattle.quantum_run.specs.Packs.{with_thread_of};
+ghost use Rattle.quantum_run.specs.Shows.{frames_of, has_words};
+ghost use Rattle.quantum_run.specs.Packs.{HoldsNo, empty_pack, empty_writing, seen_by_view};
+ghost use Rattle.quantum_run.specs.Packs.{seen_in, with_own_page, with_thread_of, without_words};
+ghost use Rattle.quantum_run.specs.Packs.{words_held};
 
 use crate::page_places::Places;
-use crate::run::run_lent;
+use crate::run::{run_lent, run_over};
 use code_pages::CodePages;
 use dos_world::Regs;
 use page_store::{Frames, Page};
 use proc_table::Table;
 use std::alloc::{AllocError, Global};
 use std::marker::Model;
+use written_words::{Written, WrittenWords};
 
 /// What is lent to each pack: the frames, and the table with the spaces.
 #[derive(Drop)]
@@ -48,7 +49,8 @@ impl Shared {
 }
 
 /// A thread's number and its process's, its registers and budget, and the pages of frames that are
-/// its own. Contracts see the record `Pack`, with the pages in the order in which they came.
+/// its own; or in the buffered scheme, in place of pages, the words that it has written. Contracts
+/// see the record `Pack`, with the pages in the order in which they came.
 #[derive(Drop)]
 pub struct Pack {
     tid: u32,
@@ -59,6 +61,8 @@ pub struct Pack {
     // by frame
     own: Places,
     held: Vec<u32>,
+    // in the buffered scheme, where no page is held
+    words: Option<WrittenWords>,
     // of no thread
     code: Box<CodePages>,
 }
@@ -79,9 +83,20 @@ impl Model for Pack {
           k.left;
       pages = paired k.held.items k.own;
       room = length k.own;
+      words = k.words;
     } };
 
     ghost invariant = { λ k. IsPacked k.held.items k.own (vec_capacity k.held) };
+}
+
+// no words any more, where there were some
+fn forget(words: &mut Option<WrittenWords>)
+    ensures { words.new ≡ without_words words.old }
+{
+    match words {
+        Some(words) => words.clear(),
+        None => {}
+    }
 }
 
 impl Pack {
@@ -96,11 +111,29 @@ impl Pack {
             left: 0,
             own: Places::reserve(alloc, frames)?,
             held: Vec::with_capacity(alloc, frames as usize)?,
+            words: None,
             code: Box::new(alloc, CodePages::reserve(alloc)?)?,
         })
     }
 
-    /// Another thread, before its pages come.
+    /// No words, with room for all that there may be, and none for pages: a pack of the buffered
+    /// scheme. All memory of the pack is taken here.
+    pub fn reserve_buffered(alloc: Global) -> Result<Pack, AllocError>
+        ensures { IfOk result (λ p. p ≡ empty_writing) }
+    {
+        Ok(Pack {
+            tid: 0,
+            pid: 0,
+            regs: Box::new(alloc, Regs::new(0))?,
+            left: 0,
+            own: Places::reserve(alloc, 0)?,
+            held: Vec::new(alloc),
+            words: Some(WrittenWords::reserve(alloc)?),
+            code: Box::new(alloc, CodePages::reserve(alloc)?)?,
+        })
+    }
+
+    /// Another thread, before its pages come; it has written nothing.
     pub fn fill(&mut self, tid: u32, pid: u32, regs: Regs, budget: u32)
         requires { self.old.pages ≡ [] }
         ensures { self.new ≡ with_thread_of self.old tid pid regs budget }
@@ -109,6 +142,7 @@ impl Pack {
         self.pid = pid;
         *self.regs = regs;
         self.left = budget;
+        forget(&mut self.words);
     }
 
     /// One page more, of a frame that isn't held.
@@ -163,6 +197,17 @@ impl Pack {
     {
         self.left
     }
+
+    /// The words that it has written, in the order in which each was first written; none in the
+    /// ownership scheme.
+    pub fn words(&self) -> &[Written]
+        ensures { result.now ≡ words_held self.now }
+    {
+        match &self.words {
+            Some(words) => words.as_slice(),
+            None => &[],
+        }
+    }
 }
 
 /// Runs the pack's thread until its next instruction stops or its budget is 0: its whole part in
@@ -212,6 +257,28 @@ pub fn run_slice(pack: &mut Pack, view: &View<'_>, most: u32) -> bool
 {
     // that each page has an owner is known of the frames themselves
     let _count = view.frames.count();
+    if pack.words.is_some() {
+        return run_words(pack, view, most);
+    }
+    run_pages(pack, view, most)
+}
+
+// the same of a pack with pages of its own
+#[inline(always)]
+fn run_pages(pack: &mut Pack, view: &View<'_>, most: u32) -> bool
+    requires scheme { has_words pack.old ≡ false }
+    requires can { CanRun pack.old (seen_by_view view.now) }
+    requires each { length view.now.frames.now.owners ≡ length view.now.frames.now.pages }
+    ensures out { result ≡ true → RanOut pack.old (seen_by_view view.now) pack.new }
+    ensures more { result ≡ false → LeadsTo pack.old (seen_by_view view.now) pack.new
+        × (0 < pack.new.budget) × (pack.new.budget + most ≡ pack.old.budget) }
+    ensures part { result ≡ false → RanFor most pack.old (seen_by_view view.now) pack.new }
+    ensures thread { pack.new.thread ≡ pack.old.thread }
+    ensures process { pack.new.process ≡ pack.old.process }
+    ensures frames { frames_of pack.new.pages ≡ frames_of pack.old.pages }
+    ensures budget { pack.new.budget ≤ pack.old.budget }
+    ensures room { pack.new.room ≡ pack.old.room }
+{
     let space = view.table.space(pack.pid);
     let mut regs = *pack.regs;
     let mut left = pack.left;
@@ -229,4 +296,39 @@ pub fn run_slice(pack: &mut Pack, view: &View<'_>, most: u32) -> bool
     *pack.regs = regs;
     pack.left = left;
     stop.is_some() || floor == 0
+}
+
+// the same of a pack with words
+#[inline(always)]
+fn run_words(pack: &mut Pack, view: &View<'_>, most: u32) -> bool
+    requires scheme { has_words pack.old ≡ true }
+    requires can { CanRun pack.old (seen_by_view view.now) }
+    requires each { length view.now.frames.now.owners ≡ length view.now.frames.now.pages }
+    ensures out { result ≡ true → RanOut pack.old (seen_by_view view.now) pack.new }
+    ensures more { result ≡ false → LeadsTo pack.old (seen_by_view view.now) pack.new
+        × (0 < pack.new.budget) × (pack.new.budget + most ≡ pack.old.budget) }
+    ensures part { result ≡ false → RanFor most pack.old (seen_by_view view.now) pack.new }
+    ensures thread { pack.new.thread ≡ pack.old.thread }
+    ensures process { pack.new.process ≡ pack.old.process }
+    ensures frames { frames_of pack.new.pages ≡ frames_of pack.old.pages }
+    ensures budget { pack.new.budget ≤ pack.old.budget }
+    ensures room { pack.new.room ≡ pack.old.room }
+{
+    let space = view.table.space(pack.pid);
+    let mut regs = *pack.regs;
+    let mut left = pack.left;
+    let end = left.saturating_sub(most);
+    let why = run_over(
+        view.frames,
+        space,
+        pack.tid,
+        &mut pack.code,
+        &mut pack.words,
+        &mut regs,
+        &mut left,
+        end,
+    );
+    *pack.regs = regs;
+    pack.left = left;
+    why.is_some() || end == 0
 }

@@ -7,6 +7,7 @@ ghost use Rattle.rv_exec.specs.Runs.{GoesTo};
 ghost use Rattle.flat_machine.specs.Over.{one_in};
 ghost use Rattle.flat_machine.specs.Step.{step};
 ghost use Rattle.code_pages.specs.Lines.{bytes_of_pages};
+ghost use Rattle.quantum_run.specs.Buffering.{HasWritten};
 ghost use Rattle.quantum_run.specs.Pages.{AreOwn, AreReached, AreWithin, is_here, overlay};
 ghost use Rattle.quantum_run.specs.ThreadRuns.{AreElsewhere, AreMapped, Goes, IsRunOf, Reaches};
 ghost use Rattle.quantum_run.specs.ThreadRuns.{StartsElsewhere, is_stop_at, run_to};
@@ -15,6 +16,7 @@ ghost use Rattle.quantum_run.specs.ThreadRuns.{store_of};
 ghost use Rattle.quantum_run.specs.Answering.{Still, run_answers, still};
 ghost use Rattle.quantum_run.specs.Showing.{ShowsBy, ShowsKnown};
 
+use crate::buffered::Buffered;
 use crate::flight::{fly, fly_between};
 use crate::lent::Lent;
 use crate::page_places::{Places, write_out};
@@ -26,6 +28,7 @@ use dos_world::{Reason, Regs};
 use page_store::{Frames, Page};
 use space_map::Space;
 use std::mem;
+use written_words::WrittenWords;
 
 /// Whether it is one of these addresses.
 fn is_stop_at(stops: &[u32], pc: u32) -> bool
@@ -305,6 +308,41 @@ fn run_written(
     let stop = run(&mut memory, code, regs, budget, floor);
     code.keep_hints(memory.hints);
     *own = memory.pages.own;
+    stop
+}
+
+/// The run of a thread over the frames, all home, and words of its own, until its budget has come
+/// down to the floor.
+pub(crate) fn run_over(
+    frames: &Frames,
+    space: &Space,
+    tid: u32,
+    code: &mut CodePages,
+    words: &mut Option<WrittenWords>,
+    regs: &mut Regs,
+    budget: &mut u32,
+    floor: u32,
+) -> Option<Reason>
+    requires words { is_some words.old ≡ true }
+    requires home { AreHome frames.now }
+    requires mapped { AreMapped frames.now space.now.entries }
+    requires floor { floor ≤ budget.old }
+    ensures { HasWritten frames.now space.now.entries tid regs.old regs.new words.old words.new
+        budget.old budget.new floor result }
+{
+    let own = match words.take() {
+        Some(own) => own,
+        None => unreachable!(),
+    };
+    let pages = Buffered {
+        frames,
+        words: own,
+        tid,
+    };
+    let mut memory = Running::new(pages, space, tid, code.hints());
+    let stop = run(&mut memory, code, regs, budget, floor);
+    code.keep_hints(memory.hints);
+    *words = Some(memory.pages.words);
     stop
 }
 

@@ -6,8 +6,9 @@ use Rattle.std.proofs.Math.Bool.{or-true}
 use Rattle.std.proofs.lemmas.Option.{same_Some}
 use Rattle.std.specs.Prelude.{slice_get, ◌||◌, ◌==◌}
 use Rattle.dos_world.specs.World.{look}
-use Rattle.quantum_run.specs.Shows.{Pack, View, CanRun, frames_of}
-use Rattle.staying_workers.specs.Ready.{MayRun, entries_of_process, is_home, space_under, stands_in}
+use Rattle.quantum_run.specs.Shows.{Pack, View, CanRun, CanRunOwning, CanRunWriting, frames_of}
+use Rattle.staying_workers.specs.Ready.{MayRun, MayRunOwning, MayRunWriting, entries_of_process}
+use Rattle.staying_workers.specs.Ready.{is_home, space_under, stands_in}
 
 either_of : (a b : Bool) → (a || b) ≡ true → (a ≡ true) ⊎ (b ≡ true)
 either_of true b e = inl refl
@@ -33,8 +34,8 @@ page_of None e = absurd (grind arith)
 page_of (Some None) e = absurd (grind arith)
 page_of (Some (Some page)) e = (page, refl)
 
-pub may_of : (p : Pack) (v : View) → CanRun p v → MayRun p v
-may_of p v can =
+may_owning : (p : Pack) (v : View) → CanRunOwning p v → MayRunOwning p v
+may_owning p v can =
     let same : space_under v p ≡ can.entries = ap entries_of_process can.space in (
       can.space ∙ ap (λ es. Some (Some es)) (sym same),
       (λ page e at. can.mapped page e (subst (λ es. look es page ≡ Some e) same at)),
@@ -44,8 +45,22 @@ may_of p v can =
       can.level,
     )
 
-pub can_of : (p : Pack) (v : View) → MayRun p v → CanRun p v
-can_of p v may = record {
+may_writing : (p : Pack) (v : View) → CanRunWriting p v → MayRunWriting p v
+may_writing p v can =
+    let same : space_under v p ≡ can.entries = ap entries_of_process can.space in (
+      can.space ∙ ap (λ es. Some (Some es)) (sym same),
+      (λ page e at. can.mapped page e (subst (λ es. look es page ≡ Some e) same at)),
+      can.home,
+    )
+
+pub may_of : (p : Pack) (v : View) → CanRun p v → MayRun p v
+may_of p v can = (
+  (λ none. may_owning p v (can.owning none)),
+  (λ some. may_writing p v (can.writing some)),
+)
+
+can_owning : (p : Pack) (v : View) → MayRunOwning p v → CanRunOwning p v
+can_owning p v may = record {
   entries = space_under v p;
   space = may.0;
   mapped = may.1;
@@ -53,4 +68,18 @@ can_of p v may = record {
   owned = may.3;
   shared = λ frame all. page_of (slice_get v.pages frame) (may.4 frame all);
   level = may.5;
+}
+
+can_writing : (p : Pack) (v : View) → MayRunWriting p v → CanRunWriting p v
+can_writing p v may = record {
+  entries = space_under v p;
+  space = may.0;
+  mapped = may.1;
+  home = may.2;
+}
+
+pub can_of : (p : Pack) (v : View) → MayRun p v → CanRun p v
+can_of p v may = record {
+  owning = λ none. can_owning p v (may.0 none);
+  writing = λ some. can_writing p v (may.1 some);
 }

@@ -17,12 +17,13 @@ begun-run v p q run = record {
 
 -- after a slice the pack can run, and where it runs out the earlier one does
 pub slice-can : (v : View) (p now : Pack) → HasRunBy LeadsTo v p now → CanRun p v → CanRun now v
-slice-can v p now slice = still-can p now v slice.thread slice.process slice.frames slice.room
+slice-can v p now slice =
+    still-can p now v slice.finished.scheme slice.thread slice.process slice.frames slice.room
 
 pub slice-run : (v : View) (p now q : Pack) → HasRunBy LeadsTo v p now → HasRunOut v now q
     → HasRunOut v p q
 slice-run v p now q slice run = record {
-  finished = slice.finished q run.finished;
+  finished = slice.finished.leads q run.finished;
   thread = run.thread ∙ slice.thread;
   process = run.process ∙ slice.process;
   frames = run.frames ∙ slice.frames;

@@ -4,7 +4,8 @@ use Rattle.std.proofs.Common.{inl, inr}
 use Rattle.std.proofs.Common.{refl, sym, ap, ◌∙◌, subst, Bool, true, false, List, [], ◌∷◌, ◌++◌}
 use Rattle.std.proofs.Common.{length, set, cond, Option, Some, arith, eqb, eq-eqb, eqb-true}
 use Rattle.std.proofs.Common.{length-set, length-append}
-use Rattle.std.specs.Prelude.{slice_get, slice_index, slice_set, replicate, ◌&&◌, ◌||◌, ◌==◌}
+use Rattle.std.specs.Prelude.{slice_get, slice_index, slice_index_or, slice_set, replicate, ◌&&◌}
+use Rattle.std.specs.Prelude.{◌||◌, ◌==◌}
 use Rattle.std.specs.List.{list_any}
 use Rattle.std.proofs.Math.Seq.{get_or-append_seam}
 use Rattle.std.proofs.lemmas.Bool.Decides.{eqb_tells}
@@ -15,7 +16,8 @@ use Rattle.std.proofs.lemmas.Nat.{or_lt}
 use Rattle.dos_world.specs.Bytes.{bytes_of}
 use Rattle.written_words.specs.declared.Written.{Written}
 use Rattle.written_words.specs.Words.{is_at, with_word_changed, with_bytes_from}
-use Rattle.written_words.specs.Index.{IsIndexed, IsLast, IsAlignedWord, chain_of}
+use Rattle.written_words.specs.Index.{FramesAreMarked, HasNoneOf, IsIndexed, IsLast, IsAlignedWord}
+use Rattle.written_words.specs.Index.{chain_of}
 
 -- ---- a search
 
@@ -449,3 +451,61 @@ stored-is-word x first count new long fits is = record {
 pub length-bytes : (k n : ℕ) → length (bytes_of k n) ≡ k
 length-bytes zero n = refl
 length-bytes (suc k) n = ap suc (length-bytes k (n / 256))
+
+-- ---- marks
+
+pub none_marked : (words : List Written) (marks : List Bool) → words ≡ []
+    → marks ≡ replicate 256 false → FramesAreMarked words marks
+none_marked words marks words_are marks_are =
+    subst (λ (w : List Written). FramesAreMarked w marks) (sym words_are)
+    (subst (λ (m : List Bool). FramesAreMarked [] m) (sym marks_are)
+    (record { count = refl; each = λ i x at. cc }))
+
+-- a word more, and the mark of its frame set
+pub marked-by : (words : List Written) (marks : List Bool) (word : Written)
+    (words' : List Written) (marks' : List Bool) (k : ℕ)
+    → words' ≡ words ++ word ∷ [] → marks' ≡ slice_set marks k true → k ≡ word.frame % 256
+    → FramesAreMarked words marks → FramesAreMarked words' marks'
+marked-by words marks word words' marks' k a b c h =
+    subst (λ (w : List Written). FramesAreMarked w marks') (sym a)
+    (subst (λ (m : List Bool). FramesAreMarked (words ++ word ∷ []) m) (sym b) (record {
+      count = length-set marks k true ∙ h.count;
+      each = λ i x at. by_word x (got words word x i at);
+    }))
+  where
+    by_test : (n : ℕ) → ((eqb n k ≡ true) × (n ≡ k)) ⊎ ((eqb n k ≡ false) × (n ≢ k))
+        → (n < 256) → (n ≢ k → slice_index_or marks n false ≡ true)
+        → slice_index_or (slice_set marks k true) n false ≡ true
+    by_test n (inl p) small old =
+        get_or-set_at marks k n true false p.1 (omega (arith, small, p.1, h.count))
+    by_test n (inr p) small old = get_or-set_other marks k n true false p.1 ∙ old p.1
+
+    by_word : {i : ℕ} (x : Written)
+        → ((i < length words) × (slice_get words i ≡ Some x)) ⊎ ((i ≡ length words) × (word ≡ x))
+        → slice_index_or (slice_set marks k true) (x.frame % 256) false ≡ true
+    by_word {i} x (inl p) =
+        by_test (x.frame % 256) (eqb_tells (x.frame % 256) k) (omega arith)
+        (λ other. h.each i x p.1)
+    by_word {i} x (inr p) =
+        by_test (x.frame % 256) (eqb_tells (x.frame % 256) k) (omega arith)
+        (λ other. absurd (other (ap (λ (z : Written). z.frame % 256) (sym p.1) ∙ sym c)))
+
+-- a word changed
+pub marked-changed : (words : List Written) (marks : List Bool) (place : ℕ) (x y : Written)
+    → slice_get words place ≡ Some x → y.frame ≡ x.frame → y.offset ≡ x.offset
+    → FramesAreMarked words marks → FramesAreMarked (slice_set words place y) marks
+marked-changed words marks place x y at frame offset h = record {
+  count = h.count;
+  each = λ i z g.
+      let r = was words place i x y z at frame offset g in
+      ap (λ n. slice_index_or marks (n % 256) false) (sym r.frame) ∙ h.each i r.word r.here;
+}
+
+-- where the mark of a frame isn't set, no word is of it
+pub none-of : (words : List Written) (marks : List Bool) (frame : ℕ) → FramesAreMarked words marks
+    → slice_index_or marks (frame % 256) false ≡ false → HasNoneOf words frame
+none-of words marks frame h not_set = λ i x at is.
+    never (sym (ap (λ n. slice_index_or marks (n % 256) false) is) ∙ h.each i x at) not_set
+  where
+    never : {b : Bool} → b ≡ true → b ≡ false → ⊥
+    never a b = cc

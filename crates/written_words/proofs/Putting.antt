@@ -2,7 +2,7 @@
 use Rattle.std.proofs.Common.{ℕ, zero, suc, ◌+◌, ◌*◌, ◌/◌, ◌%◌, ◌≡◌, ◌≢◌, ◌<◌, ◌≤◌, ◌⊎◌, inl, inr}
 use Rattle.std.proofs.Common.{refl, sym, ap, ◌∙◌, subst, cond, Bool, true, false, eqb, List, []}
 use Rattle.std.proofs.Common.{◌∷◌}
-use Rattle.std.proofs.Common.{length, set, take, drop, Option, Some, arith}
+use Rattle.std.proofs.Common.{length, length-set, set, take, drop, Option, Some, arith}
 use Rattle.std.specs.Prelude.{slice_get}
 use Rattle.std.specs.Prelude.{All}
 use Rattle.std.specs.List.{list_any}
@@ -12,7 +12,8 @@ use Rattle.std.proofs.lemmas.List.Elements.{All-head, All-tail}
 use Rattle.std.proofs.lemmas.Option.{get_or_from_slice_get, slice_get_within}
 use Rattle.dos_world.specs.Bytes.{bytes_of, number_of}
 use Rattle.written_words.specs.declared.Written.{Written}
-use Rattle.written_words.specs.Index.{IsIndexed, IsAlignedWord}
+use Rattle.dos_world.specs.World.{page_of}
+use Rattle.written_words.specs.Index.{HasNoneOf, IsIndexed, IsAlignedWord}
 use Rattle.written_words.specs.Words.{is_at, word_put, words_put, written_by}
 use Rattle.written_words.proofs.Indexing.{none-at}
 
@@ -95,15 +96,40 @@ by-beside n p i mask bytes (b ∷ new) out =
 abbrev pub place_of : Written → ℕ
 place_of x = 4096 * x.frame + x.offset
 
--- words that are elsewhere leave a window as it is
+length-by : (mask : ℕ) (bytes : List ℕ) (place : ℕ) (new : List ℕ)
+    → length (written_by mask bytes place new) ≡ length bytes
+length-by mask bytes place [] = refl
+length-by mask bytes place (b ∷ new) =
+    length-by (mask / 2) (cond (eqb (mask % 2) 1) (set bytes place b) bytes) (suc place) new
+    ∙ by_bit (eqb (mask % 2) 1)
+  where
+    by_bit : (c : Bool) → length (cond c (set bytes place b) bytes) ≡ length bytes
+    by_bit true = length-set bytes place b
+    by_bit false = refl
+
+-- there are as many bytes as before
+pub length-put : (bytes : List ℕ) (words : List Written)
+    → length (words_put bytes words) ≡ length bytes
+length-put bytes [] = refl
+length-put bytes (x ∷ words) =
+    length-put (word_put bytes x) words ∙ length-by x.mask bytes (place_of x) (bytes_of 4 x.value)
+
+-- words that are elsewhere leave a stretch as it is
+pub stretch-beside : (n p : ℕ) (words : List Written) (bytes : List ℕ)
+    → ((i : ℕ) (x : Written) → slice_get words i ≡ Some x
+    → (place_of x + 4 ≤ p) ⊎ (p + n ≤ place_of x))
+    → take n (drop p (words_put bytes words)) ≡ take n (drop p bytes)
+stretch-beside n p [] bytes out = refl
+stretch-beside n p (x ∷ words) bytes out =
+    stretch-beside n p words (word_put bytes x) (λ i y h. out (suc i) y h)
+    ∙ by-beside n p (place_of x) x.mask bytes (bytes_of 4 x.value) (out zero x refl)
+
+-- and a window
 pub words-beside : (p : ℕ) (words : List Written) (bytes : List ℕ)
     → ((i : ℕ) (x : Written) → slice_get words i ≡ Some x
     → (place_of x + 4 ≤ p) ⊎ (p + 4 ≤ place_of x))
     → take 4 (drop p (words_put bytes words)) ≡ take 4 (drop p bytes)
-words-beside p [] bytes out = refl
-words-beside p (x ∷ words) bytes out =
-    words-beside p words (word_put bytes x) (λ i y h. out (suc i) y h)
-    ∙ by-beside 4 p (place_of x) x.mask bytes (bytes_of 4 x.value) (out zero x refl)
+words-beside = stretch-beside 4
 
 Some-word : {x y : Written} → ◌≡◌ {A = Option Written} (Some x) (Some y) → x ≡ y
 Some-word h = cc
@@ -203,3 +229,22 @@ module _ (words : List Written) (before last : List ℕ) (h : IsIndexed words be
       (ap (λ a. 4096 * a + x.offset) frame ∙ ap (λ b. 4096 * f + b) offset)
       (λ i y g other. elsewhere i y g (λ a b. other (h.apart i place y x g at
       (a ∙ sym frame) (b ∙ sym offset)))))
+
+-- ---- a page without words
+
+-- where no word is of a frame, its page is as memory has it
+pub page-beside : (words : List Written) (before last : List ℕ) → IsIndexed words before last
+    → (frame : ℕ) → HasNoneOf words frame → (bytes : List ℕ)
+    → page_of (words_put bytes words) frame ≡ page_of bytes frame
+page-beside words before last h frame none bytes =
+    stretch-beside 4096 (4096 * frame) words bytes
+    (λ i x g. beside x (word-at words before last h 0 0 refl (omega arith) i x g) (none i x g))
+  where
+    beside : (x : Written) → IsAlignedWord x → x.frame ≢ frame
+        → (place_of x + 4 ≤ 4096 * frame) ⊎ (4096 * frame + 4096 ≤ place_of x)
+    beside x is other = by_order (cases_lt x.frame frame)
+      where
+        by_order : (x.frame < frame) ⊎ (frame ≤ x.frame)
+            → (place_of x + 4 ≤ 4096 * frame) ⊎ (4096 * frame + 4096 ≤ place_of x)
+        by_order (inl low) = inl (omega (arith, low, is.aligned, is.within))
+        by_order (inr high) = inr (omega (arith, high, other))

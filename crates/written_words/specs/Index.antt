@@ -1,7 +1,7 @@
 -- How written words are found: each is in one of 1,024 chains, whose last word is known, and each
 -- word knows the one before it in its chain. This project's own rules.
 use Rattle.std.specs.Prelude.{ℕ, suc, ◌≡◌, ◌+◌, ◌*◌, ◌/◌, ◌%◌, ◌<◌, ◌≤◌, List, All, length, Some}
-use Rattle.std.specs.Prelude.{true, slice_get, slice_index}
+use Rattle.std.specs.Prelude.{Bool, true, false, ◌≢◌, slice_get, slice_index, slice_index_or}
 use Rattle.written_words.specs.declared.Written.{Written}
 use Rattle.written_words.specs.Words.{is_at, most_words}
 
@@ -37,6 +37,17 @@ pub record IsIndexed (words : List Written) (before last : List ℕ) : Type 0 wh
       → IsLast words (length words) chain (slice_index last chain)
   pub links : (i : ℕ) (x : Written) → slice_get words i ≡ Some x
       → IsLast words i (chain_of x.frame x.offset) (slice_index before i)
+
+-- Of 256 marks, that of each word's frame is set.
+pub record FramesAreMarked (words : List Written) (marks : List Bool) : Type 0 where
+  pub count : length marks ≡ 256
+  pub each : (i : ℕ) (x : Written) → slice_get words i ≡ Some x
+      → slice_index_or marks (x.frame % 256) false ≡ true
+
+-- no word is of this frame
+abbrev pub HasNoneOf : List Written → (frame : ℕ) → Type 0
+HasNoneOf words frame =
+    (i : ℕ) (x : Written) → slice_get words i ≡ Some x → x.frame ≢ frame
 
 -- the only word of this frame and offset stands at this place
 pub record IsFound (words : List Written) (frame offset place : ℕ) : Type 0 where

@@ -3,10 +3,11 @@ ghost use Rattle.std.specs.Prelude.{◌≡◌, ◌+◌, ◌*◌, ◌≤◌, ◌<
 ghost use Rattle.std.specs.Prelude.{false, Some, None, IfOk, MatchOption, if◌then◌else◌, length};
 ghost use Rattle.std.specs.Prelude.{take, drop, replicate, slice_get, slice_set};
 ghost use Rattle.std.specs.List.{list_any};
+ghost use Rattle.dos_world.specs.World.{page_of};
 ghost use Rattle.dos_world.specs.Reach.{bytes_of, width, written};
 ghost use Rattle.written_words.specs.declared.Written.{Written as word_type};
 ghost use Rattle.written_words.specs.Words.{is_at, with_bytes_from, with_stored, words_put};
-ghost use Rattle.written_words.specs.Index.{IsFound, IsAlignedWord};
+ghost use Rattle.written_words.specs.Index.{HasNoneOf, IsFound, IsAlignedWord};
 
 use crate::Written;
 use crate::index::chain;
@@ -27,19 +28,22 @@ pub struct WrittenWords {
     before: Vec<u16>,
     // for each chain the place of its last word
     last: Box<[u16; 1024]>,
+    // by a frame's number modulo 256, whether there may be a word of it
+    marks: Box<[bool; 256]>,
 }
 
 impl Model for WrittenWords {
     ghost use Rattle.std.specs.Prelude.{List, ◌≤◌};
     ghost use Rattle.std.specs.Vec.{vec_capacity};
     ghost use Rattle.written_words.specs.declared.Written.{Written as word_type};
-    ghost use Rattle.written_words.specs.Index.{IsIndexed};
+    ghost use Rattle.written_words.specs.Index.{FramesAreMarked, IsIndexed};
 
     ghost Value = { List word_type };
 
     ghost view = { λ w. w.words.items };
 
     ghost invariant = { λ w. IsIndexed w.words.items w.before.items w.last.value
+        × FramesAreMarked w.words.items w.marks.value
         × (1024 ≤ vec_capacity w.words) × (1024 ≤ vec_capacity w.before) };
 }
 
@@ -57,6 +61,20 @@ fn reset(last: &mut [u16; 1024])
     *last = no_chains();
 }
 
+// no frame has a word
+fn no_marks() -> [bool; 256]
+    ensures { result ≡ replicate 256 false }
+{
+    [false; 256]
+}
+
+// no frame has a word any more
+fn unmark(marks: &mut [bool; 256])
+    ensures { marks.new ≡ replicate 256 false }
+{
+    *marks = no_marks();
+}
+
 impl WrittenWords {
     /// No words, and room for all that there may be.
     pub fn reserve(alloc: Global) -> Result<WrittenWords, AllocError>
@@ -66,6 +84,7 @@ impl WrittenWords {
             words: Vec::with_capacity(alloc, MOST)?,
             before: Vec::with_capacity(alloc, MOST)?,
             last: Box::new(alloc, no_chains())?,
+            marks: Box::new(alloc, no_marks())?,
         })
     }
 
@@ -76,6 +95,7 @@ impl WrittenWords {
         self.words.clear();
         self.before.clear();
         reset(&mut self.last);
+        unmark(&mut self.marks);
     }
 
     /// The words, in the order in which each was first written.
@@ -83,6 +103,17 @@ impl WrittenWords {
         ensures { result.now ≡ self.now }
     {
         self.words.as_slice()
+    }
+
+    /// Whether there may be a word of this frame. Where it says no there is none, and the frame's
+    /// page is as memory has it. It looks at one mark.
+    #[inline(always)]
+    pub fn may_have(&self, frame: u32) -> bool
+        ensures none { result ≡ false → HasNoneOf self.now frame }
+        ensures page { result ≡ false → (bytes : List ℕ)
+            → page_of (words_put bytes self.now) frame ≡ page_of bytes frame }
+    {
+        self.marks[(frame % 256) as usize]
     }
 
     /// Where the word of this frame and offset stands.
@@ -114,6 +145,7 @@ impl WrittenWords {
         self.before.push_reserved(self.last[chain]);
         self.words.push_reserved(word);
         self.last[chain] = self.words.len() as u16;
+        self.marks[(word.frame % 256) as usize] = true;
     }
 
     // the low bytes of a value go into the word at this place, from this byte on

@@ -53,7 +53,7 @@ returns c =
     c.self.view_is refl refl c.self.invariant c.requires.room c.requires.other in
     let pages = paired-with k.held.items k.own
     (vec_capacity k.held) c.self.invariant c.args.frame c.args.page new.within new.away in
-    packed-view k.tid k.pid k.regs.value k.left
+    packed-view k.tid k.pid k.regs.value k.left k.words
     (paired k.held.items k.own ++ (c.args.frame, whole c.args.page) ∷ [])
     (paired c.push.new.self.items c.put.new.self)
     (length k.own) (length c.put.new.self)

@@ -34,7 +34,7 @@ returns c =
     ap (λ xs. paired xs own) a.items
     ∙ paired-without new own (vec_capacity k.held) f packed c.in-Some.page c.in-Some.ensures.page
     ∙ ap (λ other. paired new other ++ (f, whole c.in-Some.page) ∷ []) (sym c.take.ensures.rest) in
-    sym c.self.view_is ∙ packed-view k.tid k.pid k.regs.value k.left
+    sym c.self.view_is ∙ packed-view k.tid k.pid k.regs.value k.left k.words
     (paired new rest ++ (f, whole c.in-Some.page) ∷ []) (paired k.held.items own)
     (length rest) (length own) same
     (sym (ap (λ (other : List (Option (List ℕ))). length other) c.take.ensures.rest

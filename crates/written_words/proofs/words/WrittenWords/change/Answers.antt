@@ -5,7 +5,7 @@ use Rattle.dos_world.specs.Reach.{bytes_of, width}
 use Rattle.written_words.specs.declared.Written.{Written}
 use Rattle.written_words.specs.Index.{IsAlignedWord}
 use Rattle.written_words.specs.Words.{with_bytes_from}
-use Rattle.written_words.proofs.Indexing.{changed, length-bytes, stored-is-word}
+use Rattle.written_words.proofs.Indexing.{changed, length-bytes, marked-changed, stored-is-word}
 use Rattle.written_words.proofs.words.WrittenWords.change.Goals as goal
 
 pub invariant_of-self : goal.invariant_of-self
@@ -23,6 +23,9 @@ invariant_of-self c =
           (width c.args.size) (bytes_of (width c.args.size) c.args.value)
           (length-bytes (width c.args.size) c.args.value) c.requires.within is))
           c.self.invariant.0,
+      marked-changed words c.self.inside.marks.value c.args.place w c.with_value.result at
+          (ap (λ (z : Written). z.frame) c.with_value.ensures)
+          (ap (λ (z : Written). z.offset) c.with_value.ensures) c.self.invariant.1,
       search rules,
       search rules,
     )

@@ -1,12 +1,13 @@
 use Rattle.std.proofs.Common.{◌≡◌, ◌≢◌, ◌⊎◌, inl, inr, ◌∙◌, sym, ap, true, false, eqb-true, is_some}
 use Rattle.std.proofs.Common.{arith}
 use Rattle.std.proofs.lemmas.Bool.{eqb-false}
-use Rattle.quantum_run.specs.Shows.{Pack, frames_of}
+use Rattle.quantum_run.specs.Shows.{Pack, frames_of, has_words}
 use Rattle.quantum_run.proofs.Packing.{frames-paired, packed-kept, same-length}
 use Rattle.quantum_run.proofs.Ready.{floor-left, ready-reached, ready-own, ready-within}
 use Rattle.quantum_run.proofs.Ready.{slice-leads, slice-out, slice-part}
-use Rattle.quantum_run.proofs.pack.run_slice.Goals as goal
-use Rattle.quantum_run.proofs.pack.run_slice.Goals.{then-is_some, else-is_some}
+use Rattle.quantum_run.proofs.Slices.{owning-for, owning-leads, owning-out}
+use Rattle.quantum_run.proofs.pack.run_pages.Goals as goal
+use Rattle.quantum_run.proofs.pack.run_pages.Goals.{then-is_some, else-is_some}
 
 pub invariant_of-pack : goal.invariant_of-pack
 invariant_of-pack c = packed-kept c.pack.inside.held.items c.pack.inside.own
@@ -26,25 +27,25 @@ pub run_lent-stop-requires-clause-reached : goal.run_lent-stop-requires-clause-r
 run_lent-stop-requires-clause-reached c =
     let k = c.pack.inside in
     let v = c.args.view.now in
-    ready-reached k.tid k.pid k.regs.value k.left k.held.items k.own _ c.pack.invariant
+    ready-reached k.tid k.pid k.regs.value k.left k.words k.held.items k.own _ c.pack.invariant
     v.frames.now v.table.now c.space-space.result.now.entries c.space-space.ensures.entries
-    c.args.pack.now c.pack.view_is c.requires.can
+    c.args.pack.now c.pack.view_is (c.requires.can.owning c.requires.scheme)
 
 pub run_lent-stop-requires-clause-own : goal.run_lent-stop-requires-clause-own
 run_lent-stop-requires-clause-own c =
     let k = c.pack.inside in
     let v = c.args.view.now in
-    ready-own k.tid k.pid k.regs.value k.left k.held.items k.own _ c.pack.invariant
+    ready-own k.tid k.pid k.regs.value k.left k.words k.held.items k.own _ c.pack.invariant
     v.frames.now v.table.now c.space-space.result.now.entries c.space-space.ensures.entries
-    c.args.pack.now c.pack.view_is c.requires.can
+    c.args.pack.now c.pack.view_is (c.requires.can.owning c.requires.scheme)
 
 pub run_lent-stop-requires-clause-within : goal.run_lent-stop-requires-clause-within
 run_lent-stop-requires-clause-within c =
     let k = c.pack.inside in
     let v = c.args.view.now in
-    ready-within k.tid k.pid k.regs.value k.left k.held.items k.own _ c.pack.invariant
+    ready-within k.tid k.pid k.regs.value k.left k.words k.held.items k.own _ c.pack.invariant
     v.frames.now v.table.now c.space-space.result.now.entries c.space-space.ensures.entries
-    c.args.pack.now c.pack.view_is c.requires.can
+    c.args.pack.now c.pack.view_is (c.requires.can.owning c.requires.scheme)
 
 pub returns-clause-out : goal.returns-clause-out
 returns-clause-out c = λ out.
@@ -59,12 +60,13 @@ returns-clause-out c = λ out.
       | then-is_some b ↦ inl (sym c.is_some.ensures ∙ b.if-is_some.true)
       | else-is_some b ↦ inr (eqb-true floor 0 (sym b.result-is ∙ out))
     ] in
-    slice-out k.tid k.pid k.regs.value k.left k.held.items k.own _ c.pack.invariant
+    owning-out c.args.pack.now _ _ c.requires.scheme
+    (slice-out k.tid k.pid k.regs.value k.left k.words k.held.items k.own _ c.pack.invariant
     v.frames.now v.table.now c.space-space.result.now.entries c.space-space.ensures.entries
-    c.args.pack.now c.pack.view_is c.requires.can
-    (sym c.count-count.ensures.owners ∙ c.count-count.ensures.pages)
+    c.args.pack.now c.pack.view_is (c.requires.can.owning c.requires.scheme)
+    c.requires.each
     c.deref.result.now c.deref.ensures n.own n.regs n.budget floor stop e.here e.within
-    e.runs e.stop ended
+    e.runs e.stop ended)
 
 never : true ≡ false → ⊥
 never q = cc
@@ -88,12 +90,14 @@ returns-clause-more c = λ on.
     let at : n.budget ≡ floor = floor-left _ stop n.budget floor goes.0 e.stop in
     let whole : k.left ≡ c.args.pack.now.budget = ap (λ (p : Pack). p.budget) c.pack.view_is in
     let less = c.saturating_sub-floor.ensures in (
-      slice-leads k.tid k.pid k.regs.value k.left k.held.items k.own _ c.pack.invariant
+      owning-leads c.args.pack.now _ _ c.requires.scheme
+          (ap has_words c.pack.view_is ∙ c.requires.scheme)
+          (slice-leads k.tid k.pid k.regs.value k.left k.words k.held.items k.own _ c.pack.invariant
           v.frames.now v.table.now c.space-space.result.now.entries c.space-space.ensures.entries
-          c.args.pack.now c.pack.view_is c.requires.can
-          (sym c.count-count.ensures.owners ∙ c.count-count.ensures.pages)
+          c.args.pack.now c.pack.view_is (c.requires.can.owning c.requires.scheme)
+          c.requires.each
           c.deref.result.now c.deref.ensures n.own n.regs n.budget floor stop e.here e.within
-          e.runs e.stop,
+          e.runs e.stop),
       omega (arith, at, goes.1),
       omega (arith, at, goes.1, less, whole),
     )
@@ -116,9 +120,10 @@ returns-clause-part c = λ on.
     ] in
     let at : n.budget ≡ floor = floor-left _ stop n.budget floor goes.0 e.stop in
     let less = c.saturating_sub-floor.ensures in
-    slice-part k.tid k.pid k.regs.value k.left k.held.items k.own _ c.pack.invariant
+    owning-for c.args.most c.args.pack.now _ _ c.requires.scheme
+    (slice-part k.tid k.pid k.regs.value k.left k.words k.held.items k.own _ c.pack.invariant
     v.frames.now v.table.now c.space-space.result.now.entries c.space-space.ensures.entries
-    c.args.pack.now c.pack.view_is c.requires.can
-    (sym c.count-count.ensures.owners ∙ c.count-count.ensures.pages)
+    c.args.pack.now c.pack.view_is (c.requires.can.owning c.requires.scheme)
+    c.requires.each
     c.deref.result.now c.deref.ensures n.own n.regs n.budget floor stop e.here e.within
-    e.runs e.stop c.args.most (omega (arith, at, goes.1, less))
+    e.runs e.stop c.args.most (omega (arith, at, goes.1, less)))
