@@ -1,7 +1,7 @@
 //! A group of one process that ends with 7, as it is opened.
 ghost use Rattle.kernel_calls.specs.StateWorld.{IsSound};
 
-use dos_world::Config;
+use dos_world::{Config, Scheme};
 use elf_image::{Image, read_image};
 use group_open::open_state;
 use kernel_calls::State;
@@ -23,6 +23,7 @@ const CONFIG: Config = Config {
     quantum: 1000,
     rounds: 100_000,
     frames: 17,
+    scheme: Scheme::Ownership,
 };
 
 fn image(rt: &impl Abort, alloc: Global) -> Image {

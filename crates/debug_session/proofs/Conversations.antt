@@ -4,6 +4,7 @@ use Rattle.std.specs.Prelude.{codes, slice_get, unwrap_or, ◌==◌}
 use Rattle.dos_world.specs.Bytes.{bytes_of}
 use Rattle.dos_world.specs.Play.{Answer, posts}
 use Rattle.dos_world.specs.declared.Config.{Config}
+use Rattle.dos_world.specs.declared.Scheme.TheVariants.{Ownership}
 use Rattle.elf_image.specs.Image.{Image}
 use Rattle.flat_machine.specs.Opening.{opening}
 use Rattle.group_moves.specs.Moments.{first_moment, history}
@@ -39,7 +40,7 @@ abbrev pub exits_with_7 : Image
 exits_with_7 = program (0x00200893 ∷ 0x00700513 ∷ 0x00000073 ∷ [])
 
 abbrev pub with_quantum : (quantum frames : ℕ) → Config
-with_quantum quantum frames = record { quantum = quantum; rounds = 100000; frames = frames }
+with_quantum quantum frames = record { quantum = quantum; rounds = 100000; frames = frames; scheme = Ownership }
 
 abbrev pub with_frames : ℕ → Config
 with_frames frames = with_quantum 1000 frames

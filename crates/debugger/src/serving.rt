@@ -12,7 +12,7 @@ use crate::opening::open_session;
 use crate::stops::DebugStop;
 use debug_connection::{ServeStop, serve};
 use dos_io::{Host, Sink};
-use dos_world::Config;
+use dos_world::{Config, Scheme};
 use elf_image::Image;
 use group_open::OpenError;
 use log_text::Log;
@@ -30,6 +30,7 @@ fn config_of(log: &Log) -> Config
         quantum: header.quantum,
         rounds: header.rounds,
         frames: header.frames,
+        scheme: Scheme::Ownership,
     }
 }
 

@@ -25,7 +25,7 @@ use Rattle.dos_texts.specs.declared.refusal.Refusal.TheVariants as refusals
 use Rattle.dos_words.specs.Numbers.{Text}
 use Rattle.dos_words.specs.Request.{request}
 use Rattle.dos_words.specs.declared.request.Request.{Request}
-use Rattle.dos_words.specs.declared.request.Scheme.{Scheme}
+use Rattle.dos_world.specs.declared.Scheme.{Scheme}
 use Rattle.dos_words.specs.declared.request.Request.TheVariants.{Run, Replay, Gen, Migrate}
 use Rattle.dos_words.specs.declared.request.Request.TheVariants.{Save, Resume}
 use Rattle.dos_words.specs.declared.request.Request.TheVariants.{Trace}

@@ -26,7 +26,7 @@ use Rattle.dos_texts.specs.declared.refusal.Refusal.{Refusal}
 use Rattle.dos_texts.specs.declared.refusal.Refusal.TheVariants as refusals
 use Rattle.dos_words.specs.Numbers.{Text}
 use Rattle.dos_words.specs.declared.request.Request.TheVariants as requests
-use Rattle.dos_words.specs.declared.request.Scheme.{Scheme}
+use Rattle.dos_world.specs.declared.Scheme.{Scheme}
 use Rattle.dos_cmd.proofs.Asked.{IsLater, later_replay}
 use Rattle.dos_cmd.specs.Judging.{Judgement, agreed, replay_judgement, taken_log}
 use Rattle.dos_cmd.specs.Outside.{Outside, Faults, outside, faults, Says}

@@ -17,7 +17,7 @@ use Rattle.dos_texts.specs.Exit.{ending_status}
 use Rattle.dos_texts.specs.declared.refusal.Refusal.{Refusal}
 use Rattle.dos_texts.specs.declared.refusal.Refusal.TheVariants as refusals
 use Rattle.dos_words.specs.Numbers.{Text}
-use Rattle.dos_words.specs.declared.request.Scheme.{Scheme}
+use Rattle.dos_world.specs.declared.Scheme.{Scheme}
 use Rattle.dos_cmd.proofs.Asked.{IsLater, later_run}
 use Rattle.dos_cmd.specs.Judging.{Images, Judgement, OfFiles, Taken, digests_of, images_from}
 use Rattle.dos_cmd.specs.Judging.{taken_images}

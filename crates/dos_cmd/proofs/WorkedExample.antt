@@ -32,7 +32,7 @@ use Rattle.dos_words.specs.Numbers.{Text}
 use Rattle.dos_words.specs.Request.{request}
 use Rattle.dos_words.specs.declared.request.Request.{Request}
 use Rattle.dos_words.specs.declared.request.Request.TheVariants.{Run, Replay}
-use Rattle.dos_words.specs.declared.request.Scheme.TheVariants.{Ownership}
+use Rattle.dos_world.specs.declared.Scheme.TheVariants.{Ownership}
 use Rattle.dos_cmd.specs.Judging.{Taken, agreed, by_log, digests_of, images_from, judgement}
 use Rattle.dos_cmd.specs.Judging.{taken_images, taken_log}
 use Rattle.dos_cmd.specs.Judging.{of_images, replay_judgement, verdict, with_images, with_room}
@@ -106,7 +106,7 @@ abbrev images : List Image
 images = parsed ∷ []
 
 abbrev config : Config
-config = record { quantum = 1000; rounds = 2; frames = 17 }
+config = record { quantum = 1000; rounds = 2; frames = 17; scheme = Ownership }
 
 images_are : images_from 1 (Some file ∷ []) ≡ Some (Ok images)
 unfolding verdict image image_of refusal format_refusal machine_refusal table_refusal

@@ -4,6 +4,7 @@ use Rattle.std.specs.Prelude.{Option, Some, None}
 use Rattle.std.specs.Prelude.{option_map, option_and_then, IfSome, Result, Ok, Err, nat_lt}
 use Rattle.std.specs.Prelude.{if◌then◌else◌}
 use Rattle.dos_world.specs.declared.Config.{Config}
+use Rattle.dos_world.specs.declared.Scheme.TheVariants.{Ownership}
 use Rattle.elf_image.specs.declared.error.ImageError.{ImageError}
 use Rattle.elf_image.specs.Image.{Image, image}
 use Rattle.generated_group.specs.Generated.{generated}
@@ -180,7 +181,7 @@ resume_judgement (Some file) log = by_group (group_verdict file) log
 
 -- what `gen` runs with
 abbrev pub gen_config : Config
-gen_config = record { quantum = 1000; rounds = 100000; frames = 4096 }
+gen_config = record { quantum = 1000; rounds = 100000; frames = 4096; scheme = Ownership }
 
 -- It is judged by what the files tell under its names; None where that leaves it open. The image
 -- that is generated is never refused.
@@ -188,7 +189,7 @@ abbrev pub judgement : (Text → Option (List ℕ)) → Request → Option Judge
 judgement contents
     (Run quantum rounds frames workers scheme posts clock_from clock_step log names) =
     option_map (λ images. of_images
-    (with_room (record { quantum = quantum; rounds = rounds; frames = frames }) images))
+    (with_room (record { quantum = quantum; rounds = rounds; frames = frames; scheme = Ownership }) images))
     (images_from 1 (map contents names))
 judgement contents (Replay workers scheme log names) =
     replay_judgement (contents log) (map contents names)

@@ -4,7 +4,7 @@ use Rattle.std.specs.Prelude.{◌≡◌, ℕ, List, map, Some, IsTrue}
 use Rattle.dos_words.specs.Numbers.{Text}
 use Rattle.dos_words.specs.Request.{request}
 use Rattle.dos_words.specs.declared.request.Request.{Request}
-use Rattle.dos_words.specs.declared.request.Scheme.{Scheme}
+use Rattle.dos_world.specs.declared.Scheme.{Scheme}
 use Rattle.dos_words.specs.declared.request.Request.TheVariants.{Run, Replay}
 use Rattle.dos_cmd.specs.Judging.{digests_of}
 use Rattle.dos_cmd.specs.Outside.{Outside, Grew}

@@ -4,7 +4,7 @@ use Rattle.logged_runs.specs.Recording.{HostSeen}
 use Rattle.dos_texts.specs.declared.refusal.Refusal.{Refusal}
 use Rattle.dos_words.specs.Numbers.{Text}
 use Rattle.dos_words.specs.declared.request.Request.{Request}
-use Rattle.dos_words.specs.declared.request.Scheme.{Scheme}
+use Rattle.dos_world.specs.declared.Scheme.{Scheme}
 use Rattle.dos_words.specs.declared.request.Request.TheVariants.{Run}
 use Rattle.elf_image.specs.Image.{Image}
 use Rattle.group_rounds.specs.Kernels.{Held}

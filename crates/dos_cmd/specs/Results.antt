@@ -6,6 +6,7 @@ use Rattle.dos_io.specs.declared.shim.ShimStop.{ShimStop}
 use Rattle.dos_io.specs.declared.shim.ShimStop.TheVariants as stops
 use Rattle.dos_world.specs.declared.Misfit.{Misfit}
 use Rattle.dos_world.specs.declared.Post.{Post}
+use Rattle.dos_world.specs.declared.Scheme.TheVariants.{Ownership}
 use Rattle.dpg_run.specs.Fits.{misfit, misfit_from}
 use Rattle.logged_runs.specs.Replaying.{config_of}
 use Rattle.log_text.specs.LogText.{Log, exchanges, exchanges_from}
@@ -40,7 +41,7 @@ use Rattle.dos_cmd.specs.Printing.{Inspected, Generated, CutInspect, CutSummary,
 abbrev pub run_request_asked : (quantum rounds frames : ℕ) → List (ℕ × Post) → Option ℕ → ℕ → Text
     → List Text → RunAsked
 run_request_asked quantum rounds frames posts clock_from clock_step log names = record {
-  config = record { quantum = quantum; rounds = rounds; frames = frames };
+  config = record { quantum = quantum; rounds = rounds; frames = frames; scheme = Ownership };
   posts = posts;
   clock_from = clock_from;
   clock_step = clock_step;

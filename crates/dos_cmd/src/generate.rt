@@ -19,7 +19,7 @@ use crate::run::open;
 use crate::stops::refusal_by;
 use dos_io::{Quiet, Sink, SinkFault};
 use dos_texts::{Refusal, put_output, rounds_line};
-use dos_world::{Config, Ending};
+use dos_world::{Config, Ending, Scheme};
 use dpg_run::{put_processes, run_group};
 use generated_group::{DigestSink, DropSink, generated_image};
 use group_rounds::Kernel;
@@ -32,6 +32,7 @@ const CONFIG: Config = Config {
     quantum: 1000,
     rounds: 100000,
     frames: 4096,
+    scheme: Scheme::Ownership,
 };
 
 /// How a run over sinks of its own ended, how many bytes it printed, and their digest.

@@ -12,7 +12,7 @@ ghost use Rattle.log_text.specs.LogText.{logtext};
 ghost use Rattle.log_text.specs.Ranges.{FitsLog};
 ghost use Rattle.dos_texts.specs.Exit.{ending_status};
 ghost use Rattle.dos_words.specs.declared.request.Request.TheVariants as requests;
-ghost use Rattle.dos_words.specs.declared.request.Scheme.{Scheme};
+ghost use Rattle.dos_world.specs.declared.Scheme.{Scheme};
 ghost use Rattle.dos_cmd.specs.Asking.{Asks, files_named, named_by};
 ghost use Rattle.debug_connection.specs.Keeping.{texts_of};
 ghost use Rattle.dos_cmd.specs.Judging.{agreed, contents_of, replay_judgement};
@@ -26,7 +26,7 @@ use crate::stops::refusal_by;
 use dos_io::{Files, Sink};
 use dos_texts::Refusal;
 use dos_words::{Names, Text};
-use dos_world::{Config, Ending};
+use dos_world::{Config, Ending, Scheme};
 use elf_image::Image;
 use log_files::{LoadError, agree, load_log};
 use log_text::Log;
@@ -68,6 +68,7 @@ pub(crate) fn config_of(log: &Log) -> Config
         quantum: header.quantum,
         rounds: header.rounds,
         frames: header.frames,
+        scheme: Scheme::Ownership,
     }
 }
 

@@ -13,7 +13,7 @@ ghost use Rattle.logged_runs.specs.Opened.{IsOpenedWith};
 ghost use Rattle.logged_runs.specs.Recording.{host_seen};
 ghost use Rattle.shim_log.specs.Ledger.{ArePlanned, empty_ledger};
 ghost use Rattle.dos_texts.specs.Exit.{ending_status};
-ghost use Rattle.dos_words.specs.declared.request.Scheme.{Scheme};
+ghost use Rattle.dos_world.specs.declared.Scheme.{Scheme};
 ghost use Rattle.dos_cmd.specs.Asking.{Asks, files_named, named_by};
 ghost use Rattle.dos_cmd.specs.Judging.{digests_of};
 ghost use Rattle.dos_cmd.specs.Outside.{outside, faults};

@@ -112,6 +112,7 @@ fn execute<F: Files, H: Host, O: Sink, E: Sink, W: Workers>(
                     quantum: *quantum,
                     rounds: *rounds,
                     frames: *frames,
+                    scheme: *scheme,
                 },
                 posts,
                 clock_from: *clock_from,

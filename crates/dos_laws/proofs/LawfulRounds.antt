@@ -9,14 +9,15 @@ use Rattle.dos_world.specs.Calls.{Served, went, waits, yields, gone}
 use Rattle.dos_world.specs.Services.{service}
 use Rattle.dos_world.specs.Signals.{signalled, ripen}
 use Rattle.dos_world.specs.declared.Post.{Post}
+use Rattle.dos_world.specs.declared.Scheme.{Scheme}
 use Rattle.flat_machine.specs.Step.{step}
-use Rattle.flat_machine.specs.Buffered.{Part, buffered, with_part}
-use Rattle.round_core.specs.Invariants.{IsInvariant, LeavesServed, LeavesEnd, IsOf, PhaseKeeps}
+use Rattle.flat_machine.specs.Buffered.{Part, with_part}
+use Rattle.round_core.specs.Invariants.{IsInvariant, Keeps, LeavesServed, LeavesEnd, IsOf, PhaseKeeps}
 use Rattle.flat_machine.specs.Rest.{serial_of}
-use Rattle.flat_machine.specs.Round.{RoundEnd, finished, stalled, parallel, round_by, round_of}
+use Rattle.flat_machine.specs.Round.{RoundEnd, finished, stalled, phase_of, round_by, round_of}
 use Rattle.flat_machine.specs.Round.{went as went_on}
 use Rattle.round_core.proofs.Allowed.{over_allows}
-use Rattle.round_core.proofs.Keeps.{kept_throughout}
+use Rattle.round_core.proofs.Keeps.{kept_throughout, phase_keeps}
 use Rattle.round_core.proofs.Buffers.{buffered-form}
 use Rattle.round_core.proofs.KeepsBoth.{Both, both_kept}
 use Rattle.round_core.proofs.SameRun.{same_run_kept}
@@ -39,8 +40,12 @@ kept = kept_throughout fit_protocol LawfulWith stands_kept
 pub lawful-step : (w next : World) (t : ℕ) → step w t ≡ Ok next → Lawful w → Lawful next
 lawful-step w next t is l = (stands_kept.steps_kept [] w next t is (at_rest w l)).lawful
 
-pub lawful-parallel : (w : World) → Lawful w → Lawful (parallel w)
-lawful-parallel w l = (kept.parallel_kept [] w (at_rest w l)).lawful
+-- the parallel phase of either scheme
+stands_in_phase : (scheme : Scheme) → PhaseKeeps LawfulWith (phase_of scheme)
+stands_in_phase = phase_keeps fit_protocol LawfulWith stands_kept stands-buffered
+
+pub lawful-phase : (scheme : Scheme) (w : World) → Lawful w → Lawful (phase_of scheme w)
+lawful-phase scheme w l = (stands_in_phase scheme [] w (at_rest w l)).lawful
 
 -- a part that is put in
 pub lawful-part : (w : World) (t : ℕ) (p : Part) → IsPartIn w.owners p → Lawful w
@@ -92,6 +97,9 @@ module _ (w : World) where
   round_left few (finished last) h = h.0.lawful
   round_left few (stalled last) h = h.0.lawful
 
+  here : Keeps fit_protocol IsHere
+  here = same_run_kept w.quantum w.rounds fit_protocol (λ question output error. tt)
+
   -- with any parallel phase that keeps the world lawful, its quantum and its count of rounds
   lawful-round_by : (phase : World → World) → PhaseKeeps LawfulWith phase
       → PhaseKeeps IsHere phase → (end : RoundEnd) (answers rest : List Answer)
@@ -99,8 +107,7 @@ module _ (w : World) where
       → over answers (round_by phase w) ≡ gives end rest → Lawful (world_ended end)
   lawful-round_by phase stands stays end answers rest few l fit is =
       let both =
-      both_kept LawfulWith IsHere fit_protocol stands_kept
-      (same_run_kept w.quantum w.rounds fit_protocol (λ question output error. tt)) in
+      both_kept LawfulWith IsHere fit_protocol stands_kept here in
       round_left few end
       (over_allows fit_protocol (LeavesEnd (Both LawfulWith IsHere [])) answers
       (round_by phase w) end rest
@@ -108,17 +115,12 @@ module _ (w : World) where
       (λ ts u h. (stands ts u h.0, stays ts u h.1)) w tt (at_rest w l, (refl, refl)))
       fit is)
 
-  here : IsInvariant fit_protocol IsHere
-  here = kept_throughout fit_protocol IsHere
-      (same_run_kept w.quantum w.rounds fit_protocol (λ question output error. tt))
-
-  pub lawful-round : (end : RoundEnd) (answers rest : List Answer) → w.rounds < 1000000
-      → Lawful w → All IsFit answers → over answers (round_of w) ≡ gives end rest
-      → Lawful (world_ended end)
-  lawful-round = lawful-round_by parallel kept.parallel_kept here.parallel_kept
-
-  pub lawful-buffered_round : (end : RoundEnd) (answers rest : List Answer) → w.rounds < 1000000
-      → Lawful w → All IsFit answers → over answers (round_by buffered w) ≡ gives end rest
-      → Lawful (world_ended end)
-  lawful-buffered_round = lawful-round_by buffered stands-buffered
+  stays_in_phase : (scheme : Scheme) → PhaseKeeps IsHere (phase_of scheme)
+  stays_in_phase = phase_keeps fit_protocol IsHere here
       (λ ts u h. subst (λ (x : World). IsHere ts x) (sym (buffered-form u)) h)
+
+  pub lawful-round : (scheme : Scheme) (end : RoundEnd) (answers rest : List Answer)
+      → w.rounds < 1000000 → Lawful w → All IsFit answers
+      → over answers (round_of scheme w) ≡ gives end rest → Lawful (world_ended end)
+  lawful-round scheme =
+      lawful-round_by (phase_of scheme) (stands_in_phase scheme) (stays_in_phase scheme)

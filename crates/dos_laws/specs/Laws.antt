@@ -12,13 +12,14 @@ use Rattle.dos_world.specs.Services.{service}
 use Rattle.dos_world.specs.Signals.{signalled, ripen}
 use Rattle.dos_world.specs.declared.Entry.{Entry}
 use Rattle.dos_world.specs.declared.Post.{Post}
+use Rattle.dos_world.specs.declared.Scheme.{Scheme}
 use Rattle.dos_world.specs.declared.ThreadState.TheVariants.{Ready}
 use Rattle.flat_machine.specs.Step.{step}
 use Rattle.flat_machine.specs.Buffered.{Part, buffered, part_b, with_part}
 use Rattle.round_core.specs.Invariants.{Keeps, PhaseKeeps}
 use Rattle.round_core.specs.Laws.{IsNoPage}
 use Rattle.flat_machine.specs.Rest.{settled, serial_of}
-use Rattle.flat_machine.specs.Round.{RoundEnd, parallel, round_by, round_of}
+use Rattle.flat_machine.specs.Round.{RoundEnd, phase_of, round_of}
 use Rattle.dos_laws.specs.Plays.{world_served, world_ended}
 use Rattle.dos_laws.specs.Standing.{IsAwake, AreAwake, AreApart, LawfulWith, IsPost, IsFit}
 use Rattle.dos_laws.specs.Standing.{fit_protocol}
@@ -59,9 +60,9 @@ LawfulnessIsKept = Keeps fit_protocol LawfulWith
 abbrev pub StepsKeepLawful : Type 0
 StepsKeepLawful = (w next : World) (t : ℕ) → step w t ≡ Ok next → Lawful w → Lawful next
 
--- the parallel phase
+-- the parallel phase of either scheme
 abbrev pub ParallelPhasesKeep : Type 0
-ParallelPhasesKeep = (w : World) → Lawful w → Lawful (parallel w)
+ParallelPhasesKeep = (scheme : Scheme) (w : World) → Lawful w → Lawful (phase_of scheme w)
 
 -- the end of a process
 abbrev pub ProcessEndsKeep : Type 0
@@ -100,25 +101,19 @@ SignalPointsKeep = (w : World) (posts : List Post) → All IsPost posts → Lawf
 abbrev pub RipeningKeeps : Type 0
 RipeningKeeps = (w : World) → Lawful w → Lawful (ripen w)
 
--- a round, where one is left to be counted
+-- a round of either scheme, where one is left to be counted
 abbrev pub RoundsKeep : Type 0
-RoundsKeep = (w : World) (end : RoundEnd) (answers rest : List Answer) → w.rounds < 1000000
-    → Lawful w → All IsFit answers
-    → over answers (round_of w) ≡ gives end rest → Lawful (world_ended end)
+RoundsKeep = (w : World) (scheme : Scheme) (end : RoundEnd) (answers rest : List Answer)
+    → w.rounds < 1000000 → Lawful w → All IsFit answers
+    → over answers (round_of scheme w) ≡ gives end rest → Lawful (world_ended end)
 
--- ---- the same in the buffered scheme
+-- ---- what the buffered scheme puts in
 
 -- a part in range that is put in
 abbrev pub PartsKeep : Type 0
 PartsKeep = (w : World) (t : ℕ) (p : Part) → IsPartIn w.owners p → Lawful w
     → Lawful (with_part w t p)
 
--- the parallel phase
+-- its parallel phase, in which those threads stay ready that were
 abbrev pub BufferedPhasesKeep : Type 0
 BufferedPhasesKeep = PhaseKeeps LawfulWith buffered
-
--- a round, where one is left to be counted
-abbrev pub BufferedRoundsKeep : Type 0
-BufferedRoundsKeep = (w : World) (end : RoundEnd) (answers rest : List Answer) → w.rounds < 1000000
-    → Lawful w → All IsFit answers
-    → over answers (round_by buffered w) ≡ gives end rest → Lawful (world_ended end)

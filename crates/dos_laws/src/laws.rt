@@ -1,5 +1,5 @@
 // Laws of the definitions, as contracts of functions that do nothing.
-ghost use Rattle.dos_laws.specs.Laws.{BufferedPhasesKeep, BufferedRoundsKeep, PartsAreInRange};
+ghost use Rattle.dos_laws.specs.Laws.{BufferedPhasesKeep, PartsAreInRange};
 ghost use Rattle.dos_laws.specs.Laws.{PartsKeep};
 ghost use Rattle.dos_laws.specs.Laws.{EntriesAreTaken, ForksKeep, LawfulnessIsKept};
 ghost use Rattle.dos_laws.specs.Laws.{NewPagesAreZero};
@@ -49,7 +49,7 @@ pub fn steps_keep()
     ensures { StepsKeepLawful }
 {}
 
-/// The parallel phase leaves every lawful world lawful.
+/// The parallel phase of either scheme leaves every lawful world lawful.
 pub fn parallel_phases_keep()
     ensures { ParallelPhasesKeep }
 {}
@@ -92,13 +92,13 @@ pub fn ripening_keeps()
     ensures { RipeningKeeps }
 {}
 
-/// A round leaves every lawful world lawful, over all answers that fit, where fewer than 1000000
-/// rounds were run.
+/// A round of either scheme leaves every lawful world lawful, over all answers that fit, where
+/// fewer than 1000000 rounds were run.
 pub fn rounds_keep()
     ensures { RoundsKeep }
 {}
 
-// ---- the same in the buffered scheme
+// ---- what the buffered scheme puts in
 
 /// A part with registers in range and words of frames that aren't Free, put in, leaves every lawful
 /// world lawful.
@@ -110,10 +110,4 @@ pub fn parts_keep()
 /// ready that were.
 pub fn buffered_phases_keep()
     ensures { BufferedPhasesKeep }
-{}
-
-/// A round in the buffered scheme leaves every lawful world lawful, over all answers that fit,
-/// where fewer than 1000000 rounds were run.
-pub fn buffered_rounds_keep()
-    ensures { BufferedRoundsKeep }
 {}

@@ -1,6 +1,7 @@
 -- Which images a twin runs. This project's own rules.
 use Rattle.std.specs.Prelude.{◌≡◌, ℕ, List, map, Option, option_map, IfSome, Ok, Err, ⊤}
 use Rattle.dos_world.specs.declared.Config.{Config}
+use Rattle.dos_world.specs.declared.Scheme.TheVariants.{Ownership}
 use Rattle.elf_image.specs.Image.{Image}
 use Rattle.dos_texts.specs.declared.refusal.Refusal.{Refusal}
 use Rattle.dos_texts.specs.declared.refusal.Refusal.TheVariants as refusals
@@ -12,7 +13,7 @@ use Rattle.dos_twin.specs.TwinOutside.{TwinOutside, TwinSays}
 
 -- what both sides run with
 abbrev pub twin_config : Config
-twin_config = record { quantum = 1000; rounds = 100000; frames = 4096 }
+twin_config = record { quantum = 1000; rounds = 100000; frames = 4096; scheme = Ownership }
 
 -- What the files of these names are taken for; None where that is left open.
 abbrev pub twin_images : (Text → Option (List ℕ)) → List Text → Option Images

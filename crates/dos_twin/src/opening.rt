@@ -14,7 +14,7 @@ use dos_cmd::{load_all, open};
 use dos_io::Files;
 use dos_texts::Refusal;
 use dos_words::{Names, WordsError, read_names};
-use dos_world::Config;
+use dos_world::{Config, Scheme};
 use elf_image::Image;
 use group_rounds::Kernel;
 use std::alloc::Global;
@@ -28,6 +28,7 @@ fn config() -> Config
         quantum: 1000,
         rounds: 100000,
         frames: 4096,
+        scheme: Scheme::Ownership,
     }
 }
 

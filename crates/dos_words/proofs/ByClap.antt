@@ -2,7 +2,7 @@
 use Rattle.std.specs.Prelude.{[], ◌∷◌, Some, None, codes, ◌≡◌, refl}
 use Rattle.clap.proofs.OnLiterals.{clap_on_literals}
 use Rattle.dos_words.specs.declared.request.Request.TheVariants.{Run}
-use Rattle.dos_words.specs.declared.request.Scheme.TheVariants.{Ownership, Buffered}
+use Rattle.dos_world.specs.declared.Scheme.TheVariants.{Ownership, Buffered}
 use Rattle.dos_words.specs.Request.{request}
 use Rattle.dos_words.specs.Clap.{clap_request}
 

@@ -4,7 +4,7 @@ use Rattle.std.specs.Prelude.{refl}
 use Rattle.dos_words.specs.declared.request.Request.TheVariants.{Run, Replay, Inspect, Gen}
 use Rattle.dos_words.specs.declared.request.Request.TheVariants.{Debug, Migrate, Trace, Save}
 use Rattle.dos_words.specs.declared.request.Request.TheVariants.{Resume}
-use Rattle.dos_words.specs.declared.request.Scheme.TheVariants.{Ownership, Buffered}
+use Rattle.dos_world.specs.declared.Scheme.TheVariants.{Ownership, Buffered}
 use Rattle.dos_words.specs.Request.{request}
 use Rattle.dos_world.specs.declared.Post.{Post}
 use Rattle.dos_words.specs.Numbers.{posts_from}

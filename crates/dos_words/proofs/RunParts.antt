@@ -3,7 +3,7 @@ use Rattle.std.proofs.Common.{◌≡◌, refl, ℕ, List, Option, Some, None, co
 use Rattle.dos_world.specs.declared.Post.{Post}
 use Rattle.dos_words.specs.declared.read.Limits.{Limits}
 use Rattle.dos_words.specs.declared.request.Request.{Request}
-use Rattle.dos_words.specs.declared.request.Scheme.{Scheme}
+use Rattle.dos_world.specs.declared.Scheme.{Scheme}
 use Rattle.dos_words.specs.declared.request.Request.TheVariants.{Run}
 use Rattle.dos_words.specs.Numbers.{Text, ◌>>=◌}
 use Rattle.dos_words.specs.Asked.{Values, number_or, number_if_given, workers_of, images_of}

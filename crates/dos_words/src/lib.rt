@@ -13,4 +13,4 @@ mod request;
 pub use error::WordsError;
 pub use names::read_names;
 pub use read::read_words;
-pub use request::{Names, Posts, Request, Scheme, Text};
+pub use request::{Names, Posts, Request, Text};

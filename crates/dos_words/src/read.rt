@@ -17,9 +17,10 @@ use crate::command::words_command;
 use crate::error::WordsError;
 use crate::number::{number_within, small_within};
 use crate::posts::read_posts;
-use crate::request::{Names, Posts, Request, Scheme, Text};
+use crate::request::{Names, Posts, Request, Text};
 use clap::error::ErrorKind;
 use clap::{ArgMatches, Command, Error};
+use dos_world::Scheme;
 use std::alloc::Global;
 
 /// The value of an option, if it is given.

@@ -2,7 +2,7 @@
 ghost use Rattle.std.specs.Prelude.{◌≡◌, ◌<◌, [], length, map, slice_get, Some, IfOk};
 ghost use Rattle.std.specs.Prelude.{string_bytes};
 
-use dos_world::Post;
+use dos_world::{Post, Scheme};
 use std::alloc::{AllocError, Global};
 use std::marker::Model;
 
@@ -128,17 +128,6 @@ impl Posts {
     {
         &self.posts
     }
-}
-
-/// How the threads of a round see memory before its serial phase.
-#[derive(Clone, Copy, Debug, PartialEq)]
-pub enum Scheme {
-    /// A page is one thread's, or shared for reading. Who meets another's page waits for the
-    /// serial phase.
-    Ownership,
-    /// Each thread works on memory as the round began and on the words that it has written itself.
-    /// These are put in memory in thread order before the serial phase.
-    Buffered,
 }
 
 /// What the words ask for.

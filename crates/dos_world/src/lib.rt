@@ -102,13 +102,25 @@ pub struct Post {
     pub signal: u8,
 }
 
+/// How the threads of a round see memory before its serial phase.
+#[derive(Clone, Copy, Debug, PartialEq, Eq)]
+pub enum Scheme {
+    /// A page is one thread's, or shared for reading. Who meets another's page waits for the
+    /// serial phase.
+    Ownership,
+    /// Each thread works on memory as the round began and on the words that it has written itself.
+    /// These are put in memory in thread order before the serial phase.
+    Buffered,
+}
+
 /// What a run is given: instructions for each thread and round (16 to 65536), rounds at most (1 to
-/// 1000000), and frames (16 to 16384).
+/// 1000000), frames (16 to 16384), and how the threads of a round see memory.
 #[derive(Clone, Copy, Debug, PartialEq, Eq)]
 pub struct Config {
     pub quantum: u32,
     pub rounds: u32,
     pub frames: u32,
+    pub scheme: Scheme,
 }
 
 /// What the shim is asked, in which round, counted from 1, and for which thread.

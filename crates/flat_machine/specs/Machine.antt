@@ -8,8 +8,9 @@ use Rattle.dos_world.specs.declared.Ending.{Ending}
 use Rattle.dos_world.specs.declared.Ending.TheVariants.{Done, Limit, Stalled}
 use Rattle.dos_world.specs.declared.Question.{Question}
 use Rattle.dos_world.specs.declared.Question.TheVariants.{End as end_question}
-use Rattle.flat_machine.specs.Round.{went, finished, stalled, parallel, round_by, is_none_of}
-use Rattle.flat_machine.specs.Buffered.{buffered}
+use Rattle.dos_world.specs.declared.Scheme.{Scheme}
+use Rattle.dos_world.specs.declared.Scheme.TheVariants.{Buffered}
+use Rattle.flat_machine.specs.Round.{went, finished, stalled, phase_of, round_by, is_none_of}
 use Rattle.elf_image.specs.Image.{Image}
 use Rattle.flat_machine.specs.Opening.{opening}
 
@@ -52,19 +53,19 @@ told_end finish = ask (end_question finish.ending finish.world.rounds) finish.wo
 abbrev pub run_by : (World → World) → World → Config → Play Finish
 run_by phase w config = all_rounds_by phase w config >>= told_end
 
--- ---- the run whose rounds are those of `round_of`
+-- ---- the run in the scheme of its configuration
 
 -- at most this many rounds more, after so much work
-abbrev pub rounds_of : ℕ → World → ℕ → Play Finish
-rounds_of n w work = rounds_by parallel n w work
+abbrev pub rounds_of : Scheme → ℕ → World → ℕ → Play Finish
+rounds_of scheme n w work = rounds_by (phase_of scheme) n w work
 
 -- the rounds that the configuration leaves
 abbrev pub rounds_from : World → Config → Play Finish
-rounds_from w config = all_rounds_by parallel w config
+rounds_from w config = all_rounds_by (phase_of config.scheme) w config
 
 -- the run from a world, its end told
 abbrev pub run_from : World → Config → Play Finish
-run_from w config = run_by parallel w config
+run_from w config = run_by (phase_of config.scheme) w config
 
 -- the run of these images
 abbrev pub group : List Image → Config → Play Finish
@@ -117,12 +118,12 @@ machine_by phase w config answers =
 
 -- the run from a world over these answers of the shim
 abbrev pub machine_from : World → Config → List Answer → Ran
-machine_from w config answers = machine_by parallel w config answers
+machine_from w config answers = machine_by (phase_of config.scheme) w config answers
 
 -- the run of these images over these answers of the shim
 abbrev pub machine : List Image → Config → List Answer → Ran
 machine images config answers = machine_from (opening images config) config answers
 
--- the same in the buffered scheme
+-- the same in the buffered scheme, whatever scheme the configuration names
 abbrev pub machine_b : List Image → Config → List Answer → Ran
-machine_b images config answers = machine_by buffered (opening images config) config answers
+machine_b images config answers = machine images (record config { scheme = Buffered }) answers

@@ -5,7 +5,10 @@ use Rattle.dos_world.specs.World.{World, live_threads, ready_threads, with_threa
 use Rattle.dos_world.specs.Signals.{signalled, ripen}
 use Rattle.dos_world.specs.Play.{Play, Answer, Outcome, done, ask, ◌>>=◌, over, posts_of}
 use Rattle.dos_world.specs.declared.Question.TheVariants.{Signals}
+use Rattle.dos_world.specs.declared.Scheme.{Scheme}
+use Rattle.dos_world.specs.declared.Scheme.TheVariants.{Ownership, Buffered}
 use Rattle.flat_machine.specs.Alone.{alone, budget_of}
+use Rattle.flat_machine.specs.Buffered.{buffered}
 use Rattle.flat_machine.specs.Rest.{serial_of}
 
 -- ---- the parallel phase
@@ -19,6 +22,11 @@ all_alone w (t ∷ ts) = all_alone (alone w t) ts
 -- pages.
 abbrev pub parallel : World → World
 parallel w = all_alone w (ready_threads w)
+
+-- the parallel phase of a scheme
+abbrev pub phase_of : Scheme → World → World
+phase_of Ownership w = parallel w
+phase_of Buffered w = buffered w
 
 -- ---- budgets
 
@@ -70,20 +78,20 @@ round_by phase w =
     else ask (Signals (w.rounds + 1)) w.output w.error
     (λ answer. begun_by phase (ripen (signalled w (posts_of answer))))
 
--- ---- the round whose parallel phase is the one above
+-- ---- the round of a scheme
 
 -- its phases
-abbrev pub phases : World → List ℕ → Play RoundEnd
-phases w starters = phases_by parallel w starters
+abbrev pub phases : Scheme → World → List ℕ → Play RoundEnd
+phases scheme w starters = phases_by (phase_of scheme) w starters
 
 -- what follows its signal point
-abbrev pub begun : World → Play RoundEnd
-begun w = begun_by parallel w
+abbrev pub begun : Scheme → World → Play RoundEnd
+begun scheme w = begun_by (phase_of scheme) w
 
 -- all of it
-abbrev pub round_of : World → Play RoundEnd
-round_of w = round_by parallel w
+abbrev pub round_of : Scheme → World → Play RoundEnd
+round_of scheme w = round_by (phase_of scheme) w
 
 -- the same over a list of answers of the shim
-abbrev pub round : World → List Answer → Outcome RoundEnd
-round w answers = over answers (round_of w)
+abbrev pub round : Scheme → World → List Answer → Outcome RoundEnd
+round scheme w answers = over answers (round_of scheme w)

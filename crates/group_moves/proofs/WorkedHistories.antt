@@ -3,6 +3,7 @@ use Rattle.std.specs.Prelude.{ℕ, true, List, [], ◌∷◌, ◌≡◌, refl, f
 use Rattle.dos_world.specs.Bytes.{bytes_of}
 use Rattle.dos_world.specs.Play.{Answer, posts}
 use Rattle.dos_world.specs.declared.Config.{Config}
+use Rattle.dos_world.specs.declared.Scheme.TheVariants.{Ownership}
 use Rattle.elf_image.specs.Image.{Image}
 use Rattle.flat_machine.specs.Computing.{computing}
 use Rattle.group_moves.specs.Moves.{MoveKind, begins, runs, is_served, faults}
@@ -25,7 +26,7 @@ program words =
     }
 
 abbrev with_frames : ℕ → Config
-with_frames frames = record { quantum = 1000; rounds = 100000; frames = frames }
+with_frames frames = record { quantum = 1000; rounds = 100000; frames = frames; scheme = Ownership }
 
 -- the moves alone
 abbrev kinds : (most : ℕ) → Image → Config → List Answer → List MoveKind

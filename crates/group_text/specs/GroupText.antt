@@ -14,6 +14,7 @@ use Rattle.dos_world.specs.declared.End.{End}
 use Rattle.dos_world.specs.declared.End.TheVariants.{Input, Output, Error, PipeRead, PipeWrite}
 use Rattle.dos_world.specs.declared.ThreadState.{ThreadState}
 use Rattle.dos_world.specs.declared.ThreadState.TheVariants.{Ready, Retry, Asleep}
+use Rattle.dos_world.specs.declared.Scheme.TheVariants.{Ownership}
 use Rattle.text_fields.specs.Formats.{Format, bytes, u8_in, u16_in, u32_in, ◌then◌, seen_as, tagged}
 use Rattle.text_fields.specs.Formats.{many, ascending, with_count, from_to, just, any}
 use Rattle.group_text.specs.Groups.{SavedGroup}
@@ -36,7 +37,7 @@ ConfigFields = ℕ × (ℕ × ℕ)
 
 abbrev pub to_config : ConfigFields → Config
 to_config (quantum, (rounds, frames)) =
-    record { quantum = quantum; rounds = rounds; frames = frames }
+    record { quantum = quantum; rounds = rounds; frames = frames; scheme = Ownership }
 
 abbrev pub of_config : Config → ConfigFields
 of_config c = (c.quantum, (c.rounds, c.frames))

@@ -4,7 +4,7 @@ ghost use Rattle.text_fields.specs.Reading.{GivesField, first_bytes};
 ghost use Rattle.group_text.specs.GroupText.{config_row, header_row};
 ghost use Rattle.group_text.specs.Records.{header_of_record};
 
-use dos_world::Config;
+use dos_world::{Config, Scheme};
 use text_fields::{FieldError, read_bytes, read_u32, read_u32_within};
 
 /// What stands in front of a saved group's parts: the digest of its log's file, how many of its
@@ -41,6 +41,7 @@ fn read_config(end: usize, bytes: &[u8]) -> Result<(Config, &[u8]), FieldError>
         quantum,
         rounds,
         frames,
+        scheme: Scheme::Ownership,
     };
     Ok((config, rest))
 }

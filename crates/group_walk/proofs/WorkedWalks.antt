@@ -7,6 +7,7 @@ use Rattle.dos_world.specs.declared.Access.TheVariants.{Store}
 use Rattle.dos_world.specs.declared.Config.{Config}
 use Rattle.dos_world.specs.declared.Reason.TheVariants.{Fault, Service}
 use Rattle.dos_world.specs.declared.Size.TheVariants.{Word}
+use Rattle.dos_world.specs.declared.Scheme.TheVariants.{Ownership}
 use Rattle.elf_image.specs.Image.{Image}
 use Rattle.flat_machine.specs.Computing.{computing}
 use Rattle.flat_machine.specs.Effect.{effect}
@@ -39,7 +40,7 @@ program words =
     }
 
 abbrev run_of_100 : Config
-run_of_100 = record { quantum = 1000; rounds = 100; frames = 17 }
+run_of_100 = record { quantum = 1000; rounds = 100; frames = 17; scheme = Ownership }
 
 -- process_exit with 7
 abbrev exits : Image

@@ -2,6 +2,7 @@
 use Rattle.std.specs.Prelude.{◌≡◌, ⊤, ℕ, List, Some, map, take}
 use Rattle.dos_world.specs.declared.Config.{Config}
 use Rattle.dos_world.specs.declared.Misfit.{Misfit}
+use Rattle.dos_world.specs.declared.Scheme.TheVariants.{Ownership}
 use Rattle.elf_image.specs.Image.{Image}
 use Rattle.kernel_calls.specs.declared.state.RunStop.{RunStop}
 use Rattle.kernel_calls.specs.declared.state.RunStop.TheVariants.{HostFault, LogFull, Memory}
@@ -15,7 +16,7 @@ use Rattle.logged_runs.specs.Runs.{RanWhole, RanUntil, RanAhead}
 
 -- the configuration that a log's header has
 abbrev pub config_of : LogHeader → Config
-config_of h = record { quantum = h.quantum; rounds = h.rounds; frames = h.frames }
+config_of h = record { quantum = h.quantum; rounds = h.rounds; frames = h.frames; scheme = Ownership }
 
 -- how much the parallel phases of the run of these images run over so many first exchanges of a log
 abbrev pub first_work : (count : ℕ) → List Image → Log → ℕ

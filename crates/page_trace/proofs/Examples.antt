@@ -5,6 +5,7 @@ use Rattle.dos_world.specs.Bytes.{bytes_of}
 use Rattle.dos_world.specs.declared.Config.{Config}
 use Rattle.dos_world.specs.Play.{posts}
 use Rattle.dos_world.specs.declared.Owner.TheVariants.{Free, Shared, Of}
+use Rattle.dos_world.specs.declared.Scheme.TheVariants.{Ownership}
 use Rattle.flat_machine.specs.Computing.{computing}
 use Rattle.elf_image.specs.Image.{Image}
 use Rattle.flat_machine.specs.Opening.{opening}
@@ -28,7 +29,7 @@ program words =
     }
 
 abbrev with_frames : ℕ → Config
-with_frames frames = record { quantum = 1000; rounds = 100000; frames = frames }
+with_frames frames = record { quantum = 1000; rounds = 100000; frames = frames; scheme = Ownership }
 
 -- these frames, from one on, go from a thread to Free
 abbrev freed : (round from count thread : ℕ) → List Change

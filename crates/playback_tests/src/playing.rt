@@ -1,7 +1,7 @@
 //! A small group's moves over logs, on and back.
 ghost use Rattle.std.specs.Prelude.{◌≡◌, ◌≤◌, false, length};
 
-use dos_world::Config;
+use dos_world::{Config, Scheme};
 use elf_image::{Image, read_image};
 use group_walk::MoveKind;
 use log_text::read_log;
@@ -17,6 +17,7 @@ const CONFIG: Config = Config {
     quantum: 1000,
     rounds: 100,
     frames: 40,
+    scheme: Scheme::Ownership,
 };
 
 /// Two threads read a word of one page, yield, and store it with one added: they race for the page.

@@ -18,6 +18,8 @@ use Rattle.dos_world.specs.declared.Entry.{Entry}
 use Rattle.dos_world.specs.declared.Post.{Post}
 use Rattle.dos_world.specs.declared.Question.TheVariants.{Signals}
 use Rattle.dos_world.specs.declared.Reason.{Reason}
+use Rattle.dos_world.specs.declared.Scheme.{Scheme}
+use Rattle.dos_world.specs.declared.Scheme.TheVariants.{Ownership, Buffered}
 use Rattle.dos_world.specs.declared.Reason.TheVariants.{Page, Fault, Service as service_reason}
 use Rattle.flat_machine.specs.Step.{step}
 use Rattle.flat_machine.specs.Alone.{budget_of, emptied, steps, alone}
@@ -26,7 +28,8 @@ use Rattle.flat_machine.specs.Rest.{service_done, after_step, turn, turns, rest_
 use Rattle.flat_machine.specs.Rest.{serial_of}
 use Rattle.flat_machine.specs.Round.{RoundEnd, finished, stalled, all_alone, parallel, with_budget}
 use Rattle.flat_machine.specs.Round.{with_budgets, budgets, counted, phases_by, is_none_of}
-use Rattle.flat_machine.specs.Round.{begun_by, round_by, round_of}
+use Rattle.flat_machine.specs.Round.{begun_by, phase_of, round_by, round_of}
+use Rattle.flat_machine.specs.Buffered.{buffered}
 use Rattle.flat_machine.specs.Round.{went as went_on}
 use Rattle.round_core.specs.Protocol.{Protocol, Allows}
 use Rattle.round_core.specs.Invariants.{Holds, Keeps, IsInvariant, LeavesServed, LeavesEnd}
@@ -248,9 +251,15 @@ module _ (protocol : Protocol) (I : Holds) (k : Keeps protocol I) where
           ask (Signals (w.rounds + 1)) w.output w.error
           (λ answer. begun_by phase (ripen (signalled w (posts_of answer))))
 
-  pub round_keeps : (w : World) → protocol.may (Signals (w.rounds + 1)) w.output w.error → I [] w
-      → Allows protocol (LeavesEnd (I [])) (round_of w)
-  round_keeps = round_by_keeps parallel parallel_keeps
+  -- the parallel phase of either scheme, where the buffered one keeps it
+  pub phase_keeps : PhaseKeeps I buffered → (scheme : Scheme) → PhaseKeeps I (phase_of scheme)
+  phase_keeps kept Ownership = parallel_keeps
+  phase_keeps kept Buffered = kept
+
+  pub round_keeps : PhaseKeeps I buffered → (scheme : Scheme) (w : World)
+      → protocol.may (Signals (w.rounds + 1)) w.output w.error → I [] w
+      → Allows protocol (LeavesEnd (I [])) (round_of scheme w)
+  round_keeps kept scheme = round_by_keeps (phase_of scheme) (phase_keeps kept scheme)
 
   pub kept_throughout : IsInvariant protocol I
   kept_throughout = record {

@@ -1,7 +1,7 @@
 ghost use Rattle.std.specs.Prelude.{◌≤◌, ◌<◌, length};
 
 use crate::checks::{same, same_at};
-use dos_world::{Config, End, Entry, Owner, Size};
+use dos_world::{Config, End, Entry, Owner, Scheme, Size};
 use elf_image::{Image, read_image};
 use group_open::{OpenError, entry_of, fill_page, needed, next_page, open_state, page_count};
 use kernel_calls::State;
@@ -123,6 +123,7 @@ fn refusal(alloc: Global, images: &[Image], frames: u32) -> Option<OpenError>
         quantum: 16,
         rounds: 1,
         frames,
+        scheme: Scheme::Ownership,
     };
     open_state(alloc, images, &config).err()
 }
@@ -166,6 +167,7 @@ fn opened(rt: &impl Abort, alloc: Global) -> State {
         quantum: 16,
         rounds: 1,
         frames: 40,
+        scheme: Scheme::Ownership,
     };
     let state = open_state(alloc, &images, &config).expect(rt, "room");
     drop(images);

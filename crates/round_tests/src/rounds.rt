@@ -7,7 +7,7 @@ ghost use Rattle.group_rounds.specs.Kernels.{IsFresh};
 use crate::checks::same;
 use crate::guests::{ENDS_WITH_7, WRITES_HI, YIELDS, file};
 use dos_io::{GroupBorder, MemorySink, Quiet, Shim, Sink};
-use dos_world::Config;
+use dos_world::{Config, Scheme};
 use elf_image::{Image, read_image};
 use group_open::open_state;
 use group_rounds::{
@@ -24,6 +24,7 @@ const CONFIG: Config = Config {
     quantum: 1000,
     rounds: 100,
     frames: 40,
+    scheme: Scheme::Ownership,
 };
 
 // a guest with the code of these parts

@@ -4,6 +4,7 @@ use Rattle.std.specs.Prelude.{[], ◌∷◌, ◌++◌, replicate, Some, None, �
 use Rattle.dos_world.specs.Play.{posts}
 use Rattle.dos_world.specs.declared.Question.TheVariants.{Signals, End}
 use Rattle.dos_world.specs.declared.Ending.TheVariants.{Done, Limit}
+use Rattle.dos_world.specs.declared.Scheme.TheVariants.{Ownership}
 use Rattle.flat_machine.specs.Computing.{computing}
 use Rattle.elf_image.specs.Image.{Image}
 use Rattle.flat_machine.specs.Opening.{needed}
@@ -125,7 +126,7 @@ the_budget_is_enough = refl
 
 -- jal x0, 0, for one round of 1000
 the_rounds_run_out : machine (program (0x0000006F ∷ []) ∷ [])
-    (record { quantum = 1000; rounds = 1; frames = 17 }) (posts [] ∷ [])
+    (record { quantum = 1000; rounds = 1; frames = 17; scheme = Ownership }) (posts [] ∷ [])
     ≡ ends (record {
       questions = Signals 1 ∷ End Limit 1 ∷ [];
       output = [];

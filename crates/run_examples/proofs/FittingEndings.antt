@@ -3,6 +3,7 @@
 use Rattle.std.specs.Prelude.{[], ◌∷◌, Some, ◌≡◌, refl}
 use Rattle.dos_world.specs.declared.Question.TheVariants.{End as end_question}
 use Rattle.dos_world.specs.declared.Ending.TheVariants.{Done, Limit, Stalled}
+use Rattle.dos_world.specs.declared.Scheme.TheVariants.{Ownership}
 use Rattle.dos_io.specs.declared.exchange.Exchange.TheVariants.{Signals, End}
 use Rattle.flat_machine.specs.Computing.{computing}
 use Rattle.flat_machine.specs.Machine.{run_from}
@@ -32,6 +33,6 @@ another_ending = refl
 
 -- a run that its limit ends
 a_limited_run_fits : Fits (program (0x0000006F ∷ []) ∷ [])
-    (record { quantum = 1000; rounds = 1; frames = 17 }) (Signals 1 [] ∷ End Limit 1 ∷ [])
+    (record { quantum = 1000; rounds = 1; frames = 17; scheme = Ownership }) (Signals 1 [] ∷ End Limit 1 ∷ [])
 unfolding computing
 a_limited_run_fits = refl

@@ -6,6 +6,7 @@ use Rattle.dos_world.specs.Lawful.{Lawful}
 use Rattle.dos_world.specs.IsLawful.{is_lawful, is_lawful_but_for_frames}
 use Rattle.dos_world.specs.Play.{Answer, Outcome, gives, asks, over, posts}
 use Rattle.dos_world.specs.declared.Config.{Config}
+use Rattle.dos_world.specs.declared.Scheme.TheVariants.{Ownership}
 use Rattle.dos_world.proofs.LawfulTest.{lawful_by}
 use Rattle.flat_machine.specs.Computing.{computing}
 use Rattle.elf_image.specs.Image.{Image}
@@ -46,7 +47,7 @@ with_a_sleeper = refl
 
 -- after its first round: a child that lives, and a parent that waits for it
 parent_and_child : run_ends_in is_lawful_but_for_frames (forks ∷ [])
-    (record { quantum = 1000; rounds = 1; frames = 34 }) (posts [] ∷ []) ≡ true
+    (record { quantum = 1000; rounds = 1; frames = 34; scheme = Ownership }) (posts [] ∷ []) ≡ true
 unfolding computing
 parent_and_child = refl
 

@@ -6,6 +6,7 @@ use Rattle.dos_world.specs.Play.{Answer}
 use Rattle.dos_world.specs.declared.Config.{Config}
 use Rattle.dos_world.specs.declared.Ending.{Ending}
 use Rattle.dos_world.specs.declared.Question.{Question}
+use Rattle.dos_world.specs.declared.Scheme.TheVariants.{Ownership}
 use Rattle.elf_image.specs.Image.{Image}
 use Rattle.flat_machine.specs.Opening.{opening}
 use Rattle.flat_machine.specs.Machine.{Ran, ends, needs, machine}
@@ -30,7 +31,7 @@ program words =
 
 -- at most 100000 rounds
 abbrev pub with_quantum : ℕ → ℕ → Config
-with_quantum quantum frames = record { quantum = quantum; rounds = 100000; frames = frames }
+with_quantum quantum frames = record { quantum = quantum; rounds = 100000; frames = frames; scheme = Ownership }
 
 abbrev pub with_frames : ℕ → Config
 with_frames frames = with_quantum 1000 frames

@@ -5,7 +5,7 @@ use crate::guests::{
     SIG_HANDLER, SIG_MASK, STACK, Step, TEMP0, THREAD_EXIT, THREAD_NEW, WRITE, YIELD,
 };
 use crate::runs::{IN_2, IN_2_TO_6, Posts, Row, USUAL, check_rows, image};
-use dos_world::{Config, Ending};
+use dos_world::{Config, Ending, Scheme};
 use dpg_run::open_group;
 use group_open::OpenError;
 
@@ -328,6 +328,7 @@ fn a_group_needs_its_frames(rt: HostRuntime) {
         quantum: 1000,
         rounds: 100,
         frames: 16,
+        scheme: Scheme::Ownership,
     };
     let images = [image(&rt, rt.alloc(), &[SEVEN])];
     let refusal = open_group(rt.alloc(), &images, config).err();

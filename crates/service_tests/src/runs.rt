@@ -8,7 +8,7 @@ ghost use Rattle.log_text.specs.Ranges.{FitsHeader};
 use crate::checks::same_at;
 use crate::guests::{Step, file};
 use dos_io::{ClockRule, MemoryHost, MemorySink, Shim, Sink};
-use dos_world::{Config, Ending, Post};
+use dos_world::{Config, Ending, Post, Scheme};
 use dpg_run::{open_group, put_report, run_group};
 use elf_image::{Image, read_image};
 use group_rounds::Kernel;
@@ -84,6 +84,7 @@ fn config_of(row: &Row) -> Config
         quantum: row.quantum.clamp(16, 65536),
         rounds: 100_000,
         frames: row.frames.clamp(16, 16384),
+        scheme: Scheme::Ownership,
     }
 }
 

@@ -2,7 +2,7 @@
 ghost use Rattle.std.specs.Prelude.{◌≡◌, false};
 
 use dos_io::{MemorySink, Quiet};
-use dos_world::{Config, Ending};
+use dos_world::{Config, Ending, Scheme};
 use dpg_run::open_group;
 use elf_image::{Image, read_image};
 use group_rounds::Kernel;
@@ -67,6 +67,7 @@ fn opened(rt: &impl Abort, alloc: Global, words: &[u32]) -> Kernel
         quantum: 1000,
         rounds: 100_000,
         frames: 4096,
+        scheme: Scheme::Ownership,
     };
     let kernel = open_group(alloc, &images, config).expect(rt, "room");
     drop(images);

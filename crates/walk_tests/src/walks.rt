@@ -4,7 +4,7 @@ ghost use Rattle.dos_io.specs.Shims.{HasNoEnd};
 ghost use Rattle.group_rounds.specs.Kernels.{IsFresh};
 
 use dos_io::{Border, GroupBorder, MemorySink, Quiet};
-use dos_world::Config;
+use dos_world::{Config, Scheme};
 use elf_image::{Image, read_image};
 use group_open::open_state;
 use group_rounds::Kernel;
@@ -20,6 +20,7 @@ const CONFIG: Config = Config {
     quantum: 1000,
     rounds: 100,
     frames: 40,
+    scheme: Scheme::Ownership,
 };
 
 /// Ends with status 7.

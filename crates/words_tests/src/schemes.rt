@@ -1,7 +1,8 @@
 //! Schemes that words name.
 use crate::checks::same_at;
 use crate::requests::{are_names, asked, check_refused};
-use dos_words::{Request, Scheme};
+use dos_words::Request;
+use dos_world::Scheme;
 use std::alloc::Global;
 
 /// The scheme of a run or a replay of the image `a` with the log `l`, else none.

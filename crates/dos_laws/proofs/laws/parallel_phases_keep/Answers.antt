@@ -1,5 +1,5 @@
-use Rattle.dos_laws.proofs.LawfulRounds.{lawful-parallel}
+use Rattle.dos_laws.proofs.LawfulRounds.{lawful-phase}
 use Rattle.dos_laws.proofs.laws.parallel_phases_keep.Goals as goal
 
 pub returns : goal.returns
-returns c = lawful-parallel
+returns c = lawful-phase
