@@ -1,7 +1,9 @@
 -- Pages that are away with packs, and how they come back. This project's own rules.
 use Rattle.std.specs.Prelude.{ℕ, ◌≡◌, ◌≢◌, ◌⊎◌, ◌<◌, ◌≤◌, List, [], ◌∷◌, ◌++◌, length, Some, None}
 use Rattle.std.specs.Prelude.{option_map, slice_get, slice_set}
+use Rattle.dos_world.specs.declared.Config.{Config}
 use Rattle.dos_world.specs.declared.Owner.TheVariants.{Of}
+use Rattle.dos_world.specs.declared.Scheme.{Scheme}
 use Rattle.flat_machine.specs.Laws.{kept}
 use Rattle.page_store.specs.Store.{Store, whole, owner_at, with_away}
 use Rattle.flat_machine.specs.Laws.{without_progress}
@@ -128,6 +130,15 @@ pub record Handing (ts : List ℕ) (begun : List Pack) (old new : Store) (packs 
       → (b : Pack) × (slice_get begun i ≡ Some b) × HasBelow t old n b p
 
 -- ---- between two phases
+
+-- what the packs of a kernel are for: so many frames, and phases of a scheme
+pub record PacksFor : Type 0 where
+  pub frames : ℕ
+  pub scheme : Scheme
+
+-- those of a kernel with this configuration
+abbrev pub packs_for : Config → PacksFor
+packs_for config = record { frames = config.frames; scheme = config.scheme }
 
 -- At least 64 packs are spare, each with room for so many frames, and none is out.
 pub record ArePacks (frames : ℕ) (spare out : List Pack) (spare_room out_room : ℕ) : Type 0 where

@@ -3,9 +3,10 @@ use Rattle.std.specs.Prelude.{ℕ, ◌≡◌, Bool, List, Option, All, filter, n
 use Rattle.dos_world.specs.Numbered.{numbers_of}
 use Rattle.dos_world.specs.World.{World, Thread, is_state, thread_at}
 use Rattle.dos_world.specs.Signals.{would_wait}
+use Rattle.dos_world.specs.declared.Scheme.{Scheme}
 use Rattle.dos_world.specs.declared.ThreadState.TheVariants.{Ready, Retry}
 use Rattle.proc_table.specs.Tables.{IsLiveThread, thread_in}
-use Rattle.flat_machine.specs.Round.{all_alone}
+use Rattle.flat_machine.specs.Round.{all_alone, phase_of}
 use Rattle.kernel_calls.specs.StateWorld.{IsSound, sent, world_of, StaysInRound}
 use Rattle.kernel_calls.specs.declared.state.State.{State}
 use Rattle.group_rounds.specs.Parts.{KeepsCount}
@@ -29,6 +30,14 @@ is_ripe w t = is_state Retry (thread_at w t) && not (would_wait w t)
 -- the numbers of those threads, in rising order
 abbrev pub ripe_in : World → List ℕ
 ripe_in w = filter (λ t. not (would_wait w t)) (numbers_of (is_state Retry) w.threads)
+
+-- The parallel phase of a scheme has run, and nothing else is another.
+pub record HaveRunPhase (scheme : Scheme) (old new : State) : Type 0 where
+  pub runs : (q : ℕ) (o e : List ℕ)
+      → phase_of scheme (sent o e (world_of q old)) ≡ sent o e (world_of q new)
+  pub sound : IsSound new
+  pub round : StaysInRound old new
+  pub count : KeepsCount old new
 
 -- Each of these threads has run its part by itself, and nothing else is another.
 pub record HaveRunAlone (starters : List ℕ) (old new : State) : Type 0 where

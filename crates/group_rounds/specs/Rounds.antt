@@ -7,6 +7,7 @@ use Rattle.dos_world.specs.Signals.{signalled, ripen}
 use Rattle.dos_world.specs.Play.{Answer, Play, done, ◌>>=◌, posts_of}
 use Rattle.dos_world.specs.declared.Post.{Post}
 use Rattle.dos_world.specs.declared.Question.{Question}
+use Rattle.dos_world.specs.declared.Scheme.{Scheme}
 use Rattle.dos_io.specs.Borders.{BorderState, Crosses, StopsAt, exchanged}
 use Rattle.dos_io.specs.declared.exchange.Exchange.{Exchange}
 use Rattle.dos_io.specs.declared.exchange.Exchange.TheVariants.{Signals}
@@ -15,7 +16,7 @@ use Rattle.dos_io.specs.Exchanges.{answer_of}
 use Rattle.dos_laws.specs.Plays.{world_ended}
 use Rattle.flat_machine.specs.Rest.{serial_of}
 use Rattle.flat_machine.specs.Round.{RoundEnd as FlatEnd, went, finished, stalled, counted}
-use Rattle.flat_machine.specs.Round.{budgets, parallel, round_of, with_budgets}
+use Rattle.flat_machine.specs.Round.{budgets, phase_of, with_budgets}
 use Rattle.worker_pool.specs.Ran.{GrewBy}
 use Rattle.kernel_calls.specs.Plays.{Plays}
 use Rattle.kernel_calls.specs.StateWorld.{IsSound, sent, shim_stop, world_of}
@@ -85,16 +86,17 @@ pub record AreStarters (old : State) (told told_after : List Exchange) (kept sta
 -- ---- work
 
 -- how many instructions the parallel phase of the ready threads runs
-abbrev pub phase_work : World → ℕ
-phase_work w =
+abbrev pub phase_work : Scheme → World → ℕ
+phase_work scheme w =
     let opening : World = with_budgets w (ready_threads w) in
-    budgets opening (ready_threads w) - budgets (parallel opening) (ready_threads w)
+    budgets opening (ready_threads w) - budgets (phase_of scheme opening) (ready_threads w)
 
 -- How many a round runs that goes over these answers and not to its end. The first answer is its
 -- signals.
-abbrev pub begun_work : World → List Answer → ℕ
-begun_work w [] = 0
-begun_work w (signals ∷ answers) = phase_work (ripen (signalled w (posts_of signals)))
+abbrev pub begun_work : Scheme → World → List Answer → ℕ
+begun_work scheme w [] = 0
+begun_work scheme w (signals ∷ answers) =
+    phase_work scheme (ripen (signalled w (posts_of signals)))
 
 -- the answers that are told more
 abbrev pub answers_since : (told told_after : List Exchange) → List Answer

@@ -1,5 +1,6 @@
 // The parallel phase in three steps: the pages go out, the packs run, and all comes back.
 ghost use Rattle.std.specs.Prelude.{ℕ, ◌≡◌, ◌-◌, false};
+ghost use Rattle.dos_world.specs.declared.Scheme.TheVariants.{Ownership};
 ghost use Rattle.worker_pool.specs.Ran.{GrewBy, budgets_left};
 ghost use Rattle.group_rounds.specs.Away.{Away, HaveRun, IsHandedOut, IsParallelOf};
 ghost use Rattle.group_rounds.specs.Kernels.{Held};
@@ -91,9 +92,11 @@ impl Model for PartsRun {
         (vec_capacity h.spare) (vec_capacity h.out) };
 }
 
-/// Each ready thread has the quantum as its budget, and a pack with its registers and its pages.
+/// Each ready thread has the quantum as its budget, and a pack with its registers and its pages, in
+/// a kernel of the ownership scheme.
 pub fn hand_out(kernel: Kernel) -> HandedOut
-    requires { kernel.failed ≡ false }
+    requires running { kernel.failed ≡ false }
+    requires scheme { kernel.config.scheme ≡ Ownership }
     ensures { IsHandedOut kernel result }
 {
     let Kernel {
@@ -188,7 +191,8 @@ pub fn take_in(ran: PartsRun) -> Kernel
 /// The parallel phase by itself, by these three steps one after another: the kernel's world, with
 /// the budgets set, goes to the definition's, and the tally grows by the instructions of the phase.
 pub fn parallel_phase<W: Workers>(kernel: Kernel, workers: &mut W) -> Kernel
-    requires { kernel.failed ≡ false }
+    requires running { kernel.failed ≡ false }
+    requires scheme { kernel.config.scheme ≡ Ownership }
     ensures runs { (work : ℕ) × IsParallelOf kernel work result
         × GrewBy (W.tally workers.old) (W.tally workers.new) work }
     ensures fixed { W.fixed workers.new ≡ W.fixed workers.old }

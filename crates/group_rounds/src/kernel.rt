@@ -11,6 +11,7 @@ ghost use Rattle.page_store.specs.Store.{owner_at};
 ghost use Rattle.proc_table.specs.Tables.{last_status};
 ghost use Rattle.kernel_calls.specs.Plays.{Plays};
 ghost use Rattle.kernel_calls.specs.StateWorld.{StaysInRound};
+ghost use Rattle.group_rounds.specs.Handing.{packs_for};
 ghost use Rattle.group_rounds.specs.Kernels.{IsBetweenRounds, kernel_marked};
 ghost use Rattle.group_rounds.specs.Phases.{ready_in};
 ghost use Rattle.group_rounds.specs.Rounds.{AreStarters, PlaysRound, begun_work, next_round};
@@ -43,6 +44,7 @@ pub struct Kernel {
 impl Model for Kernel {
     ghost use Rattle.std.specs.Prelude.{◌≡◌, ◌≤◌, false};
     ghost use Rattle.std.specs.Vec.{vec_capacity};
+    ghost use Rattle.group_rounds.specs.Handing.{packs_for};
     ghost use Rattle.group_rounds.specs.Kernels.{Held, IsBetweenRounds};
 
     ghost Value = { Held };
@@ -55,16 +57,19 @@ impl Model for Kernel {
     } };
 
     ghost invariant = { λ k. (64 ≤ vec_capacity k.starters) × (1 ≤ k.state.round)
-        × (k.packs ≡ k.config.frames) × (k.failed ≡ false → IsBetweenRounds k.state k.config) };
+        × (k.packs ≡ packs_for k.config) × (k.failed ≡ false → IsBetweenRounds k.state k.config) };
 }
 
-// room for the starters of a round, and the packs of a kernel with so many frames
-fn reserve(alloc: Global, frames: u32) -> Result<(Vec<u32>, Packs), AllocError>
+// room for the starters of a round, and the packs of a kernel with this configuration
+fn reserve(alloc: Global, config: &Config) -> Result<(Vec<u32>, Packs), AllocError>
     ensures { IfOk result (λ kept. (kept.0.items ≡ []) × (64 ≤ vec_capacity kept.0)
-        × (kept.1 ≡ frames)) }
+        × (kept.1 ≡ packs_for config.now)) }
 {
     let starters = Vec::with_capacity(alloc, THREADS)?;
-    Ok((starters, Packs::reserve(alloc, frames)?))
+    Ok((
+        starters,
+        Packs::reserve(alloc, config.frames, config.scheme)?,
+    ))
 }
 
 impl Kernel {
@@ -80,7 +85,7 @@ impl Kernel {
                   false;
             }) }
     {
-        match reserve(alloc, config.frames) {
+        match reserve(alloc, &config) {
             Ok((starters, packs)) => Ok(Kernel {
                 state,
                 config,
@@ -187,8 +192,8 @@ pub fn run_round<B: Border, W: Workers>(
     requires running { kernel.old.failed ≡ false }
     requires limit { kernel.old.state.round ≤ kernel.old.config.rounds }
     requires told { HasNoEnd (B.state border.old).shim.told }
-    ensures plays { PlaysRound kernel.old.config.quantum (λ w. round_of w)
-        (λ w answers. begun_work w answers) result
+    ensures plays { PlaysRound kernel.old.config.quantum (λ w. round_of kernel.old.config.scheme w)
+        (λ w answers. begun_work kernel.old.config.scheme w answers) result
         kernel.old.state (B.state border.old) kernel.new.state (B.state border.new)
         (W.tally workers.old) (W.tally workers.new) }
     ensures round { IfOk result

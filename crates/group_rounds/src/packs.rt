@@ -10,14 +10,14 @@ ghost use Rattle.quantum_run.specs.Packs.{HoldsNo};
 ghost use Rattle.kernel_calls.specs.StateWorld.{IsSound};
 ghost use Rattle.group_rounds.specs.Parts.{work_between};
 ghost use Rattle.worker_pool.specs.Ran.{AllCanRun, AllRan, GrewBy, budgets_left};
-ghost use Rattle.group_rounds.specs.Phases.{AreLive, HaveRunAlone};
+ghost use Rattle.group_rounds.specs.Phases.{AreLive, HaveRunAlone, HaveRunPhase, ready_in};
 ghost use Rattle.group_rounds.specs.Handing.{AreOnce, In, all_pages, HaveNoFrameTwice, AreOthers};
 ghost use Rattle.group_rounds.specs.Handing.{AreBegun};
 ghost use Rattle.group_rounds.specs.Handing.{AreSpare, GoesOut, Handing, PutBack, AreSet, Stays};
 ghost use Rattle.group_rounds.specs.Handing.{pack_of, view_of};
 
 use crate::in_place::{is_callers, run_each};
-use dos_world::Owner;
+use dos_world::{Owner, Scheme};
 use kernel_calls::State;
 use page_store::Frames;
 use proc_table::Table;
@@ -30,11 +30,12 @@ use worker_pool::Workers;
 // at most so many threads live
 const THREADS: usize = 64;
 
-/// The packs of a kernel between two phases: all are spare. Contracts see for how many frames each
-/// has room.
+/// The packs of a kernel between two phases: all are spare. Contracts see for how many frames and
+/// which scheme they are.
 #[derive(Drop)]
 pub(crate) struct Packs {
     pub(crate) frames: u32,
+    pub(crate) scheme: Scheme,
     pub(crate) spare: Vec<Pack>,
     pub(crate) out: Vec<Pack>,
     // what stands in for the state's frames and table while the workers have them
@@ -44,11 +45,11 @@ pub(crate) struct Packs {
 impl Model for Packs {
     ghost use Rattle.std.specs.Prelude.{ℕ, IsSome};
     ghost use Rattle.std.specs.Vec.{vec_capacity};
-    ghost use Rattle.group_rounds.specs.Handing.{ArePacks};
+    ghost use Rattle.group_rounds.specs.Handing.{ArePacks, PacksFor};
 
-    ghost Value = { ℕ };
+    ghost Value = { PacksFor };
 
-    ghost view = { λ p. p.frames };
+    ghost view = { λ p. record { frames = p.frames; scheme = p.scheme } };
 
     ghost invariant = { λ p. ArePacks p.frames p.spare.items p.out.items (vec_capacity p.spare)
         (vec_capacity p.out) × IsSome p.stand_in };
@@ -75,9 +76,10 @@ fn reserve_stand_in(alloc: Global) -> Result<Shared, AllocError> {
 }
 
 impl Packs {
-    /// The packs of a kernel with `frames` frames. All their memory is taken here.
-    pub(crate) fn reserve(alloc: Global, frames: u32) -> Result<Packs, AllocError>
-        ensures { IfOk result (λ p. p ≡ frames) }
+    /// The packs of a kernel with `frames` frames, for phases of a scheme. All their memory is taken
+    /// here.
+    pub(crate) fn reserve(alloc: Global, frames: u32, scheme: Scheme) -> Result<Packs, AllocError>
+        ensures { IfOk result (λ p. p ≡ record { frames = frames; scheme = scheme }) }
     {
         Ok(Packs {
             frames,
@@ -87,15 +89,13 @@ impl Packs {
         })
     }
 
-    /// The parallel phase: each starter by itself, over its own pages, on the workers; where only
-    /// the caller's own thread would run them, in place.
+    /// The parallel phase of the packs' scheme, over the ready threads, on the workers.
     pub(crate) fn run<W: Workers>(&mut self, state: &mut State, starters: &[u32], workers: &mut W)
         requires sound { IsSound state.old }
-        requires live { AreLive state.old.table.threads starters.now }
-        requires apart { AreOnce starters.now }
+        requires ready { starters.now ≡ ready_in state.old.table.threads }
         requires few { length starters.now ≤ 64 }
-        requires level { self.old ≡ length state.old.frames.owners }
-        ensures parts { HaveRunAlone starters.now state.old state.new }
+        requires level { self.old.frames ≡ length state.old.frames.owners }
+        ensures phase { HaveRunPhase self.old.scheme state.old state.new }
         ensures packs { self.new ≡ self.old }
         ensures tally { GrewBy (W.tally workers.old) (W.tally workers.new)
             (work_between state.old state.new starters.now) }

@@ -143,12 +143,13 @@ fn play_begun<B: Border, W: Workers>(
     workers: &mut W,
 ) -> Result<RoundEnd, RunStop>
     requires sound { IsSound state.old }
-    requires level { packs.old ≡ length state.old.frames.owners }
+    requires level { packs.old.frames ≡ length state.old.frames.owners }
     requires few { length starters.now ≤ 64 }
     requires ready { starters.now ≡ ready_in state.old.table.threads }
     requires limit { state.old.round ≤ 1000000 }
     requires told { HasNoEnd (B.state border.old).shim.told }
-    ensures plays { PlaysRound quantum (λ w. begun w) (λ w answers. phase_work w) result
+    ensures plays { PlaysRound quantum (λ w. begun packs.old.scheme w)
+        (λ w answers. phase_work packs.old.scheme w) result
         state.old (B.state border.old) state.new (B.state border.new)
         (W.tally workers.old) (W.tally workers.new) }
     ensures packs { packs.new ≡ packs.old }
@@ -179,11 +180,12 @@ pub(crate) fn play_round<B: Border, W: Workers>(
     workers: &mut W,
 ) -> Result<RoundEnd, RunStop>
     requires sound { IsSound state.old }
-    requires level { packs.old ≡ length state.old.frames.owners }
+    requires level { packs.old.frames ≡ length state.old.frames.owners }
     requires room { 64 ≤ vec_capacity starters.old }
     requires limit { state.old.round ≤ 1000000 }
     requires told { HasNoEnd (B.state border.old).shim.told }
-    ensures plays { PlaysRound quantum (λ w. round_of w) (λ w answers. begun_work w answers) result
+    ensures plays { PlaysRound quantum (λ w. round_of packs.old.scheme w)
+        (λ w answers. begun_work packs.old.scheme w answers) result
         state.old (B.state border.old) state.new (B.state border.new)
         (W.tally workers.old) (W.tally workers.new) }
     ensures starters { OnOk result

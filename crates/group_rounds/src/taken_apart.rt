@@ -1,6 +1,7 @@
 // A kernel in its parts, for a caller that runs a round in steps of its own.
 ghost use Rattle.std.specs.Prelude.{◌≡◌, ◌≤◌, false};
 ghost use Rattle.std.specs.Vec.{vec_capacity};
+ghost use Rattle.group_rounds.specs.Handing.{packs_for};
 ghost use Rattle.group_rounds.specs.Kernels.{IsBetweenRounds};
 
 use crate::kernel::Kernel;
@@ -9,16 +10,17 @@ use dos_world::Config;
 use kernel_calls::State;
 use std::marker::Model;
 
-/// The packs of a kernel that is taken apart. Contracts see for how many frames each has room.
+/// The packs of a kernel that is taken apart. Contracts see for how many frames and which scheme
+/// they are.
 #[derive(Drop)]
 pub struct SparePacks {
     packs: Packs,
 }
 
 impl Model for SparePacks {
-    ghost use Rattle.std.specs.Prelude.{ℕ};
+    ghost use Rattle.group_rounds.specs.Handing.{PacksFor};
 
-    ghost Value = { ℕ };
+    ghost Value = { PacksFor };
 
     ghost view = { λ s. s.packs };
 }
@@ -31,7 +33,7 @@ pub fn take_apart(kernel: Kernel) -> (State, Config, Vec<u32>, SparePacks)
     ensures config { result.1 ≡ kernel.config }
     ensures between { IsBetweenRounds result.0 result.1 }
     ensures room { 64 ≤ vec_capacity result.2 }
-    ensures packs { result.3 ≡ result.1.frames }
+    ensures packs { result.3 ≡ packs_for result.1 }
 {
     let Kernel {
         state,
@@ -47,7 +49,7 @@ pub fn take_apart(kernel: Kernel) -> (State, Config, Vec<u32>, SparePacks)
 pub fn put_together(state: State, config: Config, starters: Vec<u32>, packs: SparePacks) -> Kernel
     requires between { IsBetweenRounds state config }
     requires room { 64 ≤ vec_capacity starters }
-    requires packs { packs ≡ config.frames }
+    requires packs { packs ≡ packs_for config }
     ensures { result ≡ record {
       state = state;
       config = config;
