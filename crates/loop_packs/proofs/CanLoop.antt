@@ -2,6 +2,7 @@
 use Rattle.std.proofs.Common.{ℕ, zero, suc, ◌≡◌, ◌≢◌, ◌<◌, List, [], ◌∷◌, length, map, refl, sym}
 use Rattle.std.proofs.Common.{ap, ◌∙◌, subst, arith, Option, Some, None, true, false, eq-eqb}
 use Rattle.std.proofs.Common.{ne_eqb}
+use Rattle.std.proofs.lemmas.List.Elements.{All-nil, All-cons}
 use Rattle.std.specs.Prelude.{All, slice_get, slice_index_or, option_map, IsSome}
 use Rattle.dos_world.specs.Numbered.{numbered}
 use Rattle.dos_world.specs.World.{look}
@@ -12,7 +13,7 @@ use Rattle.proc_table.specs.Tables.{Tables}
 use mathlib.Core.Logic.{dite}
 use native.Mathlib.Decide.{ℕ_discrete}
 use Rattle.quantum_run.specs.Packs.{space_held, view_of}
-use Rattle.quantum_run.specs.Shows.{Pack, View, CanRun, frames_of}
+use Rattle.quantum_run.specs.Shows.{Pack, View, CanRun, CanRunOwning, CanRunWriting, frames_of}
 use Rattle.worker_pool.specs.Ran.{AllCanRun}
 use Rattle.page_store.proofs.Joined.{home-at}
 use Rattle.worker_pool.proofs.RanPacks.{index-at}
@@ -69,8 +70,8 @@ mapped page e at = dite (ℕ_discrete 0x10 page)
     let none : look page_of_code page ≡ None = rw (ne_eqb 0x10 page other) refl in
     absurd (no-entry (sym none ∙ at)))
 
-can-loop : (page : List ℕ) (p : Pack) → IsLoop p → CanRun p (the_view page)
-can-loop page p loop = record {
+owning-loop : (page : List ℕ) (p : Pack) → IsLoop p → CanRunOwning p (the_view page)
+owning-loop page p loop = record {
   entries = page_of_code;
   space = ap (numbered (Some page_of_code ∷ [])) loop.0;
   mapped = mapped;
@@ -83,6 +84,24 @@ can-loop page p loop = record {
   where
     nothing : (i frame : ℕ) → slice_get (frames_of []) i ≡ Some frame → ⊥
     nothing i frame e = cc
+
+is-home : (page : List ℕ) → All IsSome (Some page ∷ [])
+is-home page = All-cons IsSome (Some page) [] refl (All-nil IsSome)
+
+writing-loop : (page : List ℕ) (p : Pack) → IsLoop p → CanRunWriting p (the_view page)
+writing-loop page p loop = record {
+  entries = page_of_code;
+  space = ap (numbered (Some page_of_code ∷ [])) loop.0;
+  mapped = mapped;
+  home = is-home page;
+}
+
+-- in either scheme, since the one frame is Shared and home
+can-loop : (page : List ℕ) (p : Pack) → IsLoop p → CanRun p (the_view page)
+can-loop page p loop = record {
+  owning = λ _. owning-loop page p loop;
+  writing = λ _. writing-loop page p loop;
+}
 
 none-there : {page : List ℕ}
     → ◌≡◌ {A = Option (Option (List ℕ))} (Some None) (Some (Some page)) → ⊥
