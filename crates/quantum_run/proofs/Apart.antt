@@ -1,36 +1,19 @@
 -- Slots that have found nothing, and slots of fetches beside those of stores.
-use Rattle.std.proofs.Common.{ℕ, ◌<◌, ◌≤◌, ◌≡◌, ◌≢◌, refl, sym, List, [], ◌∷◌, set}
-use Rattle.std.proofs.Common.{Bool, true, false, replicate, arith, subst, eq-eqb, ◌⊎◌, inl, inr}
+use Rattle.std.proofs.Common.{ℕ, ◌<◌, ◌≤◌, ◌≡◌, ◌≢◌, refl, sym, List, set}
+use Rattle.std.proofs.Common.{Bool, true, false, replicate, arith, subst, ◌⊎◌, inl, inr}
 use Rattle.std.proofs.Common.{All}
 use Rattle.std.proofs.Common.{length, ◌∙◌, ap, eqb, ◌+◌, ◌/◌, ◌%◌, slice_get, Option, Some}
 use Rattle.std.proofs.lemmas.Bool.{cases_lt}
 use Rattle.std.proofs.lemmas.Bool.Decides.{eqb_tells}
 use Rattle.std.proofs.lemmas.List.{get_or_past, get_or-set_other, get_or-set_same, get_or_default}
-use Rattle.std.specs.Prelude.{slice_index_or, ◌==◌, ◌||◌}
-use Rattle.std.specs.List.{list_any}
-use Rattle.std.proofs.lemmas.List.Elements.{All-same, All-set, All-nil, All-cons, All-replicate}
+use Rattle.std.specs.Prelude.{slice_index_or}
+use Rattle.std.proofs.lemmas.List.Elements.{All-same, All-set, All-replicate}
 use Rattle.std.proofs.lemmas.List.Elements.{All-from_get_or}
 use Rattle.page_store.specs.declared.compared.Slot.{Slot}
 use Rattle.quantum_run.specs.Finding.{no_start}
 use Rattle.quantum_run.specs.Knowing.{AreFewer, AreHidden, FetchesAreApart, IsNoCode}
 use Rattle.quantum_run.specs.Knowing.{SlotsAreMarked, empty_slot}
 use Rattle.quantum_run.proofs.Comparing.{got-set-other, got-set-same}
-
--- no slot has this frame
-none-more : (slot : Slot) (slots : List Slot) (frame : ℕ) (b : Bool) → (slot.frame == frame) ≡ b
-    → (b || list_any (λ (s : Slot). s.frame == frame) slots) ≡ false
-    → (b ≡ false) × (list_any (λ (s : Slot). s.frame == frame) slots ≡ false)
-none-more slot slots frame true is q = cc
-none-more slot slots frame false is q = (refl, q)
-
-pub no-frame : (slots : List Slot) (frame : ℕ)
-    → list_any (λ (slot : Slot). slot.frame == frame) slots ≡ false → IsNoCode slots frame
-no-frame [] frame none = All-nil (λ (slot : Slot). slot.start < no_start → slot.frame ≢ frame)
-no-frame (slot ∷ slots) frame none =
-    let more = none-more slot slots frame (slot.frame == frame) refl none in
-    All-cons (λ (s : Slot). s.start < no_start → s.frame ≢ frame) slot slots
-    (λ small same. let yes = eq-eqb slot.frame frame same in let no = more.0 in cc)
-    (no-frame slots frame more.1)
 
 -- where nothing is found for stores
 pub apart-none : (shown : List Slot) (n : ℕ) → FetchesAreApart shown (replicate n empty_slot)

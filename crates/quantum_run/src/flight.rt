@@ -20,7 +20,7 @@ use code_pages::CodePages;
 use dos_world::Regs;
 
 /// Where instructions led, what is left of the budget, and the line there, which needs a search or
-/// stops; 0 where none is known.
+/// stops; 0 where none is known or told.
 #[derive(Drop)]
 pub struct Flown {
     pub pc: u32,
@@ -194,7 +194,7 @@ fn has_stop_in_page(stops: &[u32], pc: u32) -> bool
 }
 
 /// Instructions by lines, as many as are known and need no search, of pages in which none of these
-/// addresses is; each for one of the budget.
+/// addresses is; each for one of the budget. The line there isn't told.
 #[inline(always)]
 pub fn fly_between<P: Pages>(
     regs: &mut Regs,

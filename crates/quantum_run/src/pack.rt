@@ -21,7 +21,7 @@ use written_words::{Written, WrittenWords};
 /// What is lent to each pack: the frames, and the table with the spaces.
 #[derive(Drop)]
 pub struct View<'a> {
-    /// The frames: those of threads that run are away.
+    /// The frames: the pages that packs hold are away.
     pub frames: &'a Frames,
     /// The processes' spaces.
     pub table: &'a Table,
@@ -30,7 +30,7 @@ pub struct View<'a> {
 /// What the packs of a phase share, owned: it can be handed to threads that outlive the call.
 #[derive(Drop)]
 pub struct Shared {
-    /// The frames: those of threads that run are away.
+    /// The frames: the pages that packs hold are away.
     pub frames: Frames,
     /// The processes' spaces.
     pub table: Table,

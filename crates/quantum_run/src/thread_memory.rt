@@ -410,6 +410,7 @@ impl<'a, P: Pages> Running<'a, P> {
         ensures same { (self.new.refused ≡ self.old.refused)
             × (self.new.stored_marks ≡ self.old.stored_marks) }
     {
+        // the mark alone: where it is set `hide_frame` looks at the slots, and changes them too
         if !self.shown_marks[mark_place(frame)] {
             return false;
         }
