@@ -5,6 +5,7 @@ use Rattle.quantum_run.specs.declared.pack.Shared.{Shared}
 use Rattle.worker_pool.specs.Ran.{AllCanRun, AllRan}
 use Rattle.worker_pool.proofs.RanPacks.{as-many}
 use Rattle.staying_workers.specs.Lending.{AreOfTerm, IsHeldFinished, packs_held}
+use Rattle.staying_workers.specs.declared.held.Held.{Held}
 use Rattle.staying_workers.proofs.RanPacks.{all_ran, ready_of, still_of_term}
 use Rattle.staying_workers.proofs.kept.run_owned.Goals as goal
 
@@ -36,6 +37,13 @@ take_back-requires-clause-out g c =
     let a = lent.len in let o = lent.lender.2 in let n = c.requires.count in
     let x = c.in-Ok-run_each.held.ok in let y = c.lend-lender.new.held.ok in
     (omega arith, omega arith)
+
+pub take_back-lender-requires-clause-term : goal.take_back-lender-requires-clause-term
+take_back-lender-requires-clause-term g c =
+    let lent = c.lend-lender.ensures in
+    subst (λ t. AreOfTerm t c.in-Err.held.items) (sym lent.lender.1)
+    (subst (λ (hs : List Held). AreOfTerm c.args.lender.term hs) (sym c.in-Err.ensures.err.0)
+    lent.term)
 
 pub run_beside-requires-in-Err-clause-can : goal.run_beside-requires-in-Err-clause-can
 run_beside-requires-in-Err-clause-can g c =
