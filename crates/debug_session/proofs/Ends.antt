@@ -3,6 +3,7 @@ use Rattle.std.proofs.Common.{◌≡◌, ◌≤◌, ◌<◌, ◌+◌, ℕ, zero,
 use Rattle.std.proofs.Common.{length, map, Option, Some, None, refl, ap, arith}
 use Rattle.dos_world.specs.Play.{Play, Answer, Outcome, done, ask, gives, asks, over}
 use Rattle.dos_world.specs.declared.Config.{Config}
+use Rattle.dos_world.specs.declared.Scheme.TheVariants.{Ownership}
 use Rattle.elf_image.specs.Image.{Image}
 use Rattle.flat_machine.specs.Fits.{same_question}
 use Rattle.flat_machine.specs.Opening.{opening}
@@ -221,11 +222,13 @@ is_over (suc most) (suc longer) limit answers m over_there =
     by_kind again (Some kind) over_there =
         by_outcome again kind (over answers (move_of m.world m.place)) over_there
 
+-- A history has the moves of the ownership scheme, whatever scheme the configuration names.
 pub histories_end : RunsAreTheirMoves → HistoriesEnd
 histories_end runs images config entries =
+    let owned : Config = record config { scheme = Ownership } in
     let first : Moment = first_moment (opening images config) in
-    let e : EndsAs (opening images config) config (answers_in entries) =
-    runs (opening images config) config (answers_in entries) in
+    let e : EndsAs (opening images config) owned (answers_in entries) =
+    runs (opening images config) owned (answers_in entries) refl in
     let most : ℕ = e.moves + 1 in
     let few = is_over (e.moves + 0) most config.rounds (answers_in entries) first
     (e.over_there 0) in

@@ -3,6 +3,7 @@ use Rattle.std.proofs.Common.{◌≡◌, ℕ, inr, List, Result, Option, sym, su
 use Rattle.std.specs.Prelude.{⊤}
 use Rattle.dos_io.specs.Hosts.{Told}
 use Rattle.dos_world.specs.declared.Config.{Config}
+use Rattle.dos_world.specs.declared.Scheme.TheVariants.{Ownership}
 use Rattle.elf_image.specs.Image.{Image}
 use Rattle.log_text.specs.LogText.{Log}
 use Rattle.logged_runs.specs.Recording.{HostSeen}
@@ -22,13 +23,13 @@ use Rattle.debugger.specs.Standing.{SessionView, IsSessionOf}
 
 pub was_debugged : HistoriesStart → (k : SessionView) (images : List Image)
     (names files : List (List ℕ)) (log : Log) (config : Config) (result : Result ⊤ ServeStop)
-    (told : Option Told) (out out_after : Option (List ℕ)) → config ≡ config_of log.header
+    (told : Option Told) (out out_after : Option (List ℕ)) → config ≡ config_of Ownership log.header
     → ((start : Position) → IsStart images config (log_entries log) start
     → IsSessionOf k (opening_session (recording_of names files log) start))
     → ((s : Session) → IsSessionOf k s → HasServed s result told out out_after)
     → HasDebugged images names files log result told out out_after
 was_debugged starts k images names files log config result told out out_after is shown served =
-    let found = starts images (config_of log.header) (log_entries log) in
+    let found = starts images (config_of Ownership log.header) (log_entries log) in
     record {
       start = found.0;
       is_start = found.1;

@@ -7,6 +7,7 @@ use Rattle.debug_session.specs.Positions.{Position}
 use Rattle.debug_session.specs.Recordings.{Recording}
 use Rattle.debug_session.specs.Sessions.{opening_session}
 use Rattle.dos_io.specs.Hosts.{Told}
+use Rattle.dos_world.specs.declared.Scheme.TheVariants.{Ownership}
 use Rattle.elf_image.specs.Image.{Image}
 use Rattle.flat_machine.specs.Opening.{needed}
 use Rattle.log_text.specs.LogText.{Log}
@@ -26,13 +27,13 @@ recording_of names files log = record {
   entries = log_entries log;
 }
 
--- The run of these images by this log was shown from its start on, as one of files with these names
--- and bytes: to the end of the input, or until the session stopped so.
+-- The run of these images by this log in the ownership scheme was shown from its start on, as one
+-- of files with these names and bytes: to the end of the input, or until the session stopped so.
 pub record HasDebugged (images : List Image) (names files : List (List ℕ)) (log : Log)
     (result : Result ⊤ ServeStop) (told : Option Told) (out out_after : Option (List ℕ)) : Type 0
   where
     pub start : Position
-    pub is_start : IsStart images (config_of log.header) (log_entries log) start
+    pub is_start : IsStart images (config_of Ownership log.header) (log_entries log) start
     pub served : HasServed (opening_session (recording_of names files log) start) result told out
         out_after
 

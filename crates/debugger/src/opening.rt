@@ -1,6 +1,7 @@
 // A session at the start of a recorded run.
 ghost use Rattle.std.specs.Prelude.{◌≡◌, ◌≤◌, IfErr, IfOk, length};
 ghost use Rattle.dos_world.specs.Lawful.{IsConfig};
+ghost use Rattle.dos_world.specs.declared.Scheme.TheVariants.{Ownership};
 ghost use Rattle.flat_machine.specs.Opening.{needed};
 ghost use Rattle.debug_session.specs.Positions.{Position};
 ghost use Rattle.debug_session.specs.Sessions.{opening_session};
@@ -34,7 +35,7 @@ pub(crate) fn open_session(
     requires some { 1 ≤ length images.items }
     requires few { length images.items ≤ 8 }
     requires range { IsConfig config }
-    requires given { config ≡ config_of log.header }
+    requires given { config ≡ config_of Ownership log.header }
     requires names { length names.items ≡ length images.items }
     ensures shows { IfOk result (λ session. (start : Position)
         → IsStart images.items config (log_entries log) start

@@ -4,6 +4,7 @@ ghost use Rattle.debug_connection.specs.Keeping.{texts_of};
 ghost use Rattle.dos_io.specs.Outside.{Rose};
 ghost use Rattle.flat_machine.specs.Opening.{needed};
 ghost use Rattle.dos_world.specs.Lawful.{IsConfig};
+ghost use Rattle.dos_world.specs.declared.Scheme.TheVariants.{Ownership};
 ghost use Rattle.logged_runs.specs.Recording.{host_seen};
 ghost use Rattle.logged_runs.specs.Replaying.{config_of};
 ghost use Rattle.debugger.specs.Debugging.{HasDebugged, HasStopped, debug_stop};
@@ -19,9 +20,9 @@ use log_text::Log;
 use recorded_walk::laws::histories_start;
 use std::alloc::Global;
 
-// what a log's run was given
+// What a log's run was given. A log names no scheme; the debugger walks in the ownership scheme.
 fn config_of(log: &Log) -> Config
-    ensures config { result ≡ config_of log.now.header }
+    ensures config { result ≡ config_of Ownership log.now.header }
     ensures range { IsConfig result }
 {
     let _len = log.len();

@@ -9,6 +9,7 @@ use Rattle.dos_world.specs.Signals.{signalled, ripen}
 use Rattle.dos_world.specs.Play.{Play, Answer, done, ask, ◌>>=◌, posts_of}
 use Rattle.dos_world.specs.declared.Ending.TheVariants.{Done, Stalled}
 use Rattle.dos_world.specs.declared.Question.TheVariants.{Signals}
+use Rattle.dos_world.specs.declared.Scheme.TheVariants.{Ownership}
 use Rattle.dos_world.specs.declared.ThreadState.TheVariants.{Ready}
 use Rattle.dos_world.proofs.PlayLaws.{then_assoc}
 use Rattle.flat_machine.specs.Rest.{serial_of}
@@ -60,7 +61,7 @@ module _ (limit begun_now : ℕ) where
       → Led limit answers
       (moment_at begun_now made
       (to_parts (with_budgets w (ready_threads w)) (ready_threads w) (ready_threads w)))
-      begun_now (phases w (ready_threads w) >>= ended)
+      begun_now (phases Ownership w (ready_threads w) >>= ended)
   phases_led w answers made =
       subst (Led limit answers start begun_now)
       (sym (then_assoc (serial_of (parallel opened) starters)
@@ -89,7 +90,7 @@ module _ (limit begun_now : ℕ) where
 
   begun_led : (w : World) (answers : List Answer) (made : ℕ)
       → Led limit answers (moment_at begun_now made (settled_scene (begun_scene w))) begun_now
-      (begun w >>= ended)
+      (begun Ownership w >>= ended)
   begun_led w answers made = by_live (is_none_of (live_threads w))
     where
       by_ready : (x : Bool)
@@ -99,7 +100,7 @@ module _ (limit begun_now : ℕ) where
           (if x then (w, at_end Stalled) else
           (with_budgets w (ready_threads w), before_parts (ready_threads w) (ready_threads w)))))
           begun_now
-          ((if x then done (stalled w) else phases w (ready_threads w)) >>= ended)
+          ((if x then done (stalled w) else phases Ownership w (ready_threads w)) >>= ended)
       by_ready true = nowhere limit answers begun_now made (w, at_end Stalled)
       by_ready false = phases_led w answers made
 
@@ -112,7 +113,7 @@ module _ (limit begun_now : ℕ) where
           (with_budgets w (ready_threads w), before_parts (ready_threads w) (ready_threads w)))))
           begun_now
           ((if x then done (finished w) else
-          (if is_none_of (ready_threads w) then done (stalled w) else phases w (ready_threads w)))
+          (if is_none_of (ready_threads w) then done (stalled w) else phases Ownership w (ready_threads w)))
           >>= ended)
       by_live true = nowhere limit answers begun_now made (w, at_end Done)
       by_live false = by_ready (is_none_of (ready_threads w))
@@ -122,7 +123,7 @@ module _ (limit begun_now : ℕ) where
 pub round_led : (limit begun_now made : ℕ) (w : World) (answers : List Answer)
     → kind_at limit (moment_at begun_now made (w, between_rounds)) ≡ Some begins
     → Led limit answers (moment_at begun_now made (w, between_rounds)) (begun_now + 1)
-    (round_of w >>= ended)
+    (round_of Ownership w >>= ended)
 round_led limit begun_now made w answers next = by_live (is_none_of (live_threads w)) next
   where
     here : Moment
@@ -134,7 +135,7 @@ round_led limit begun_now made w answers next = by_live (is_none_of (live_thread
         → Led limit answers here (begun_now + 1)
         ((if x then done (finished w) else
         ask (Signals (w.rounds + 1)) w.output w.error
-        (λ answer. begun (ripen (signalled w (posts_of answer))))) >>= ended)
+        (λ answer. begun Ownership (ripen (signalled w (posts_of answer))))) >>= ended)
     by_live true h = absurd (none≢some h)
       where
         none≢some : ◌≡◌ {A = Option MoveKind} None (Some begins) → ⊥
@@ -143,7 +144,7 @@ round_led limit begun_now made w answers next = by_live (is_none_of (live_thread
         then_led limit answers here (begun_now + 1)
         (ask (Signals (w.rounds + 1)) w.output w.error (λ answer. done answer))
         (λ answer. settled_scene (answered_scene w answer))
-        (λ answer. begun (ripen (signalled w (posts_of answer))) >>= ended)
+        (λ answer. begun Ownership (ripen (signalled w (posts_of answer))) >>= ended)
         (move_led limit answers here begins (begun_now + 1) 0 next (λ scene. refl))
         (λ answer rest made given.
         begun_led limit (begun_now + 1) (ripen (signalled w (posts_of answer))) rest made)

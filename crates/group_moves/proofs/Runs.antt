@@ -9,13 +9,16 @@ use Rattle.dos_world.specs.Play.{ask, questions, posts_of}
 use Rattle.dos_world.specs.Signals.{signalled, ripen}
 use Rattle.dos_world.specs.declared.Question.{Question}
 use Rattle.dos_world.specs.declared.Question.TheVariants.{Signals}
+use Rattle.dos_world.specs.declared.Scheme.{Scheme}
+use Rattle.dos_world.specs.declared.Scheme.TheVariants.{Ownership}
 use Rattle.dos_world.specs.Laws.{over_then}
 use Rattle.dos_world.specs.declared.Config.{Config}
 use Rattle.dos_world.specs.declared.Ending.TheVariants.{Done, Limit, Stalled}
 use Rattle.dos_world.proofs.PlayLaws.{over-then}
 use Rattle.flat_machine.specs.Round.{RoundEnd, went, finished, stalled, parallel, round_of}
-use Rattle.flat_machine.specs.Round.{begun_by, is_none_of}
-use Rattle.flat_machine.specs.Machine.{Finish, rounds_by, result_of, run_from, group, seen}
+use Rattle.flat_machine.specs.Round.{begun_by, is_none_of, phase_of}
+use Rattle.flat_machine.specs.Machine.{Finish, all_rounds_by, rounds_by, result_of, run_from, group}
+use Rattle.flat_machine.specs.Machine.{seen}
 use Rattle.flat_machine.specs.Opening.{opening}
 use Rattle.elf_image.specs.Image.{Image}
 use Rattle.group_moves.specs.Places.{Scene, between_rounds, at_end}
@@ -87,20 +90,20 @@ module _ (limit : ℕ) where
   -- a round goes ahead
   round_ends : (n : ℕ) → RoundsEnd n → (begun made : ℕ) (w : World) (answers : List Answer)
       (work : ℕ) → suc n ≡ limit - begun
-      → Led limit answers (between begun made w) (begun + 1) (round_of w >>= ended)
+      → Led limit answers (between begun made w) (begun + 1) (round_of Ownership w >>= ended)
       → Ended limit answers (between begun made w)
       (over answers (rounds_by parallel (suc n) w work))
   round_ends n again begun made w answers work left l =
-      let second = by_outcome (over answers (round_of w)) in
+      let second = by_outcome (over answers (round_of Ownership w)) in
       record {
         moves = then_more l.moves second.0;
         work = second.1;
         is = λ c.
-            over-then answers (round_of w) (next_rounds n work)
+            over-then answers (round_of Ownership w) (next_rounds n work)
             ∙ second.2 c
             ∙ sym (ap (λ o. finish_by second.1
             (walk_from (then_more second.0 c) limit (begun + 1) l.made o))
-            (over-then answers (round_of w) ended))
+            (over-then answers (round_of Ownership w) ended))
             ∙ sym (ap (finish_by second.1) (l.is (then_more second.0 c)))
             ∙ sym (ap (λ k. finish_by second.1 (walk k limit answers (between begun made w)))
             (then_more-assoc l.moves second.0 c));
@@ -111,7 +114,7 @@ module _ (limit : ℕ) where
             (then_more-assoc l.moves second.0 c)
             ∙ l.is (then_more second.0 c)
             ∙ ap (walk_from (then_more second.0 c) limit (begun + 1) l.made)
-            (over-then answers (round_of w) ended)))
+            (over-then answers (round_of Ownership w) ended)))
             (second.3 c);
       }
     where
@@ -198,8 +201,9 @@ module _ (limit : ℕ) where
 
 -- ---- the run
 
-pub run_ends : (w : World) (config : Config) (answers : List Answer) → EndsAs w config answers
-run_ends w config answers =
+pub run_ends : (w : World) (config : Config) (answers : List Answer) → config.scheme ≡ Ownership
+    → EndsAs w config answers
+run_ends w config answers owned =
     let e =
     rounds_end config.rounds (config.rounds - w.rounds) w.rounds 0 w answers 0 refl in
     record {
@@ -207,7 +211,8 @@ run_ends w config answers =
       work = e.work;
       is = λ more.
           ap (result_of (questions answers (run_from w config)))
-          (e.is more
+          (ap (λ (scheme : Scheme). over answers (all_rounds_by (phase_of scheme) w config)) owned
+          ∙ e.is more
           ∙ ap (λ k. finish_by e.work (walk k config.rounds answers (first_moment w)))
           (sym (then_more_sum e.moves more)));
       over_there = λ more.
@@ -321,8 +326,8 @@ walks_on moves more limit answers m =
 -- ---- the history of images
 
 pub history_folds : (images : List Image) (config : Config) (answers : List Answer)
-    → FoldsTo images config answers
-history_folds images config answers =
+    → config.scheme ≡ Ownership → FoldsTo images config answers
+history_folds images config answers owned =
     record {
       moves = e.moves;
       work = e.work;
@@ -334,7 +339,7 @@ history_folds images config answers =
     }
   where
     e : EndsAs (opening images config) config answers
-    e = run_ends (opening images config) config answers
+    e = run_ends (opening images config) config answers owned
 
     asked : List Question
     asked = questions answers (group images config)

@@ -1,11 +1,12 @@
--- Laws of moves: one after another they are the machine's phases, its rounds and its run. The
--- functions of `laws` promise them. This project's own.
+-- Laws of moves: one after another they are the machine's phases, its rounds and its run, in the
+-- ownership scheme. The functions of `laws` promise them. This project's own.
 use Rattle.std.specs.Prelude.{ℕ, ◌+◌, ◌≡◌, List, [], ◌∷◌, Some, None, Ok, ⊤}
 use Rattle.std.specs.Prelude.{option_map}
 use Rattle.dos_world.specs.World.{World, Thread, thread_at}
 use Rattle.dos_world.specs.Play.{Play, Answer, Outcome, gives, asks, done, ◌>>=◌, over, questions}
 use Rattle.dos_world.specs.declared.Config.{Config}
 use Rattle.dos_world.specs.declared.Question.{Question}
+use Rattle.dos_world.specs.declared.Scheme.TheVariants.{Ownership}
 use Rattle.dos_world.specs.declared.Ending.TheVariants.{Done, Stalled}
 use Rattle.elf_image.specs.Image.{Image}
 use Rattle.flat_machine.specs.Alone.{budget_of, steps}
@@ -110,7 +111,7 @@ abbrev pub RoundsAreTheirMoves : Type 0
 RoundsAreTheirMoves = (limit begun made : ℕ) (w : World) (answers : List Answer)
     → kind_at limit (moment_at begun made (w, between_rounds)) ≡ Some begins
     → Leads limit answers (moment_at begun made (w, between_rounds)) (begun + 1)
-    (round_of w >>= λ end. done (scene_of end))
+    (round_of Ownership w >>= λ end. done (scene_of end))
 
 -- ---- a run
 
@@ -138,9 +139,10 @@ pub record EndsAs (w : World) (config : Config) (answers : List Answer) : Type 0
   pub over_there : (more : ℕ)
       → IsHistoryOver config.rounds (walk (moves + more) config.rounds answers (first_moment w))
 
--- The moves of a run are the machine's run.
+-- The moves of a run in the ownership scheme are the machine's run.
 abbrev pub RunsAreTheirMoves : Type 0
-RunsAreTheirMoves = (w : World) (config : Config) (answers : List Answer) → EndsAs w config answers
+RunsAreTheirMoves = (w : World) (config : Config) (answers : List Answer)
+    → config.scheme ≡ Ownership → EndsAs w config answers
 
 -- ---- histories
 
@@ -199,7 +201,7 @@ pub record FoldsTo (images : List Image) (config : Config) (answers : List Answe
       (history (moves + more) images config answers))
       (machine images config answers)
 
--- The history of images folds to the machine.
+-- The history of images in the ownership scheme folds to the machine.
 abbrev pub HistoriesFoldToTheMachine : Type 0
 HistoriesFoldToTheMachine = (images : List Image) (config : Config) (answers : List Answer)
-    → FoldsTo images config answers
+    → config.scheme ≡ Ownership → FoldsTo images config answers

@@ -1,5 +1,5 @@
--- The moves of a run: the begin of a round, an instruction, a service, a fault. This project's own
--- rule.
+-- The moves of a run in the ownership scheme: the begin of a round, an instruction, a service, a
+-- fault. This project's own rule.
 use Rattle.std.specs.Prelude.{ℕ, ◌+◌, List, Option, Some, None, Result, Ok, Err, ◌||◌}
 use Rattle.std.specs.Prelude.{nat_le, if◌then◌else◌}
 use Rattle.dos_world.specs.World.{World, live_threads, ready_threads}

@@ -51,7 +51,7 @@ pub fn rounds_are_their_moves()
     ensures { RoundsAreTheirMoves }
 {}
 
-/// The moves of a run are the machine's run, over all answers.
+/// The moves of a run in the ownership scheme are the machine's run, over all answers.
 pub fn runs_are_their_moves()
     ensures { RunsAreTheirMoves }
 {}
@@ -67,9 +67,9 @@ pub fn walks_go_on()
     ensures { WalksGoOn }
 {}
 
-/// The history of images folds to the machine: behind some number of moves no move is left where
-/// the machine ends, and the last moment's world is the one in which it has ended; where it needs
-/// an answer that isn't there, the last moment's move would ask for it.
+/// The history of images in the ownership scheme folds to the machine: behind some number of moves
+/// no move is left where the machine ends, and the last moment's world is the one in which it has
+/// ended; where it needs an answer that isn't there, the last moment's move would ask for it.
 pub fn histories_fold_to_the_machine()
     ensures { HistoriesFoldToTheMachine }
 {}

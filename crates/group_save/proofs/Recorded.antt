@@ -8,6 +8,7 @@ use Rattle.std.proofs.lemmas.List.Elements.{All-head, All-tail, All-map}
 use Rattle.dos_world.specs.World.{Thread, World, flat, thread_at}
 use Rattle.dos_world.specs.Lawful.{IsConfig, IsWord, Lawful}
 use Rattle.dos_world.specs.declared.Config.{Config}
+use Rattle.dos_world.specs.declared.Scheme.TheVariants.{Ownership}
 use Rattle.proc_table.specs.Spread.{living_from}
 use Rattle.kernel_calls.specs.StateWorld.{IsSound, world_of}
 use Rattle.kernel_calls.specs.declared.state.State.{State}
@@ -76,7 +77,8 @@ living_back P n (Some thread ∷ threads) all (suc i) =
 
 module _ (digest : List ℕ) (used : ℕ) (config : Config) (s : State) (g : GroupRecord)
     (is : IsKernelOf digest used config s g) (sound : IsSound s) (range : IsConfig config)
-    (count : length s.frames.owners ≡ config.frames) (low : s.round ≤ config.rounds + 1) where
+    (scheme : config.scheme ≡ Ownership) (count : length s.frames.owners ≡ config.frames)
+    (low : s.round ≤ config.rounds + 1) where
   abbrev w : World
   w = world_of config.quantum s
 
@@ -106,6 +108,7 @@ module _ (digest : List ℕ) (used : ℕ) (config : Config) (s : State) (g : Gro
     digest_bytes = is.digest_bytes;
     few_used = is.few_used;
     config_range = range;
+    scheme = scheme;
     lawful = lawful_now;
     frames = count;
     rounds = omega (arith, low);

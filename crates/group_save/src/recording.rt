@@ -1,6 +1,7 @@
 // A kernel's state, read out.
 ghost use Rattle.std.specs.Prelude.{◌≡◌, ◌+◌, ◌≤◌, ◌<◌, All, IfOk, length};
 ghost use Rattle.dos_world.specs.Lawful.{IsConfig, Lawful};
+ghost use Rattle.dos_world.specs.declared.Scheme.TheVariants.{Ownership};
 ghost use Rattle.kernel_calls.specs.StateWorld.{IsSound, world_of};
 ghost use Rattle.text_fields.specs.Formats.{AreBytes};
 ghost use Rattle.group_text.specs.GroupText.{group_row};
@@ -65,9 +66,9 @@ fn with_frames(group: GroupRecord, frames: Vec<FrameRecord>) -> GroupRecord
     GroupRecord { frames, ..group }
 }
 
-/// The saved group of a state: of a run that was given this, by a log of this digest, of which so
-/// many entries were used. It stands for the state's world, which is lawful. Pages are moved, and
-/// never copied. The error is want of memory.
+/// The saved group of a state: of a run in the ownership scheme that was given this, by a log of
+/// this digest, of which so many entries were used. It stands for the state's world, which is
+/// lawful. Pages are moved, and never copied. The error is want of memory.
 pub fn record_group(
     alloc: Global,
     state: State,
@@ -77,6 +78,7 @@ pub fn record_group(
 ) -> Result<GroupRecord, AllocError>
     requires sound { IsSound state }
     requires config { IsConfig config }
+    requires scheme { config.scheme ≡ Ownership }
     requires frames { length state.frames.owners ≡ config.frames }
     requires rounds { state.round ≤ config.rounds + 1 }
     ensures is { IfOk result

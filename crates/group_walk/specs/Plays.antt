@@ -3,6 +3,7 @@ use Rattle.std.specs.Prelude.{ℕ, zero, suc, ◌≡◌, ◌+◌, List, Some, No
 use Rattle.dos_world.specs.World.{World}
 use Rattle.dos_world.specs.Play.{Play, Answer, done, ◌>>=◌, over, questions}
 use Rattle.dos_world.specs.declared.Config.{Config}
+use Rattle.dos_world.specs.declared.Scheme.TheVariants.{Ownership}
 use Rattle.flat_machine.specs.Machine.{machine_from, result_of, run_from}
 use Rattle.flat_machine.specs.Rest.{Turn, on, over_with}
 use Rattle.group_moves.specs.Laws.{finish_by}
@@ -66,7 +67,7 @@ pub record IsWalkedTo (w : World) (config : Config) (answers : List Answer) : Ty
       ≡ result_of (questions answers (run_from w config))
       (finish_by work (over answers (walked (moves + more) config.rounds (first_moment w))))
 
--- The walk from the first moment is the machine's run.
+-- The walk from the first moment is the machine's run, in the ownership scheme.
 abbrev pub WalksAreTheMachine : Type 0
 WalksAreTheMachine = (w : World) (config : Config) (answers : List Answer)
-    → IsWalkedTo w config answers
+    → config.scheme ≡ Ownership → IsWalkedTo w config answers

@@ -8,7 +8,7 @@ pub fn walks_are_plays()
     ensures { WalksArePlays }
 {}
 
-/// The walk from the first moment is the machine's run, over all answers.
+/// The walk from the first moment is the machine's run in the ownership scheme, over all answers.
 pub fn walks_are_the_machine()
     ensures { WalksAreTheMachine }
 {

@@ -2,6 +2,7 @@
 ghost use Rattle.std.specs.Prelude.{◌≡◌, ◌+◌, ◌-◌, ◌^◌, ◌<◌, ◌≤◌, ℕ, List, false, is_err, is_none};
 ghost use Rattle.std.specs.Prelude.{IsSome, OnOk, true};
 ghost use Rattle.dos_world.specs.Play.{done};
+ghost use Rattle.dos_world.specs.declared.Scheme.TheVariants.{Ownership};
 ghost use Rattle.dos_io.specs.Shims.{HasNoEnd};
 ghost use Rattle.group_moves.specs.Moments.{Moment, first_moment, kind_at};
 ghost use Rattle.group_moves.specs.Places.{between_rounds};
@@ -59,8 +60,9 @@ pub enum Phase {
     Ended(Ending),
 }
 
-/// A walk over a kernel. Contracts see its state, its configuration, its place, how many rounds
-/// have begun and how many moves were made since, and whether a move has failed.
+/// A walk over a kernel of the ownership scheme. Contracts see its state, its configuration, its
+/// place, how many rounds have begun and how many moves were made since, and whether a move has
+/// failed.
 #[derive(Drop)]
 pub struct Walker {
     state: State,
@@ -78,6 +80,8 @@ pub struct Walker {
 impl Model for Walker {
     ghost use Rattle.std.specs.Prelude.{◌≡◌, ◌≤◌, false};
     ghost use Rattle.std.specs.Vec.{vec_capacity};
+    ghost use Rattle.dos_world.specs.declared.Scheme.TheVariants.{Ownership};
+    ghost use Rattle.group_rounds.specs.Handing.{packs_for};
     ghost use Rattle.group_walk.specs.Places.{place_at};
     ghost use Rattle.group_walk.specs.Walks.{IsWalking, Walk};
 
@@ -92,8 +96,8 @@ impl Model for Walker {
       failed = w.failed;
     } };
 
-    ghost invariant = { λ w. (64 ≤ vec_capacity w.starters) × (w.packs ≡ w.config.frames)
-        × (w.failed ≡ false → IsWalking (record {
+    ghost invariant = { λ w. (64 ≤ vec_capacity w.starters) × (w.packs ≡ packs_for w.config)
+        × (w.config.scheme ≡ Ownership) × (w.failed ≡ false → IsWalking (record {
           state = w.state;
           config = w.config;
           place = place_at w.phase w.starters.items w.index;
@@ -116,9 +120,10 @@ fn numbers_behind(phase: Phase, begun: u32, made: u64) -> (u32, u64)
 }
 
 impl Walker {
-    /// A walk from the moment at which a kernel stands between two rounds.
+    /// A walk from the moment at which a kernel of the ownership scheme stands between two rounds.
     pub fn begin(kernel: Kernel) -> Walker
-        requires { kernel.failed ≡ false }
+        requires running { kernel.failed ≡ false }
+        requires scheme { kernel.config.scheme ≡ Ownership }
         ensures begins { result ≡ record {
           state = kernel.state;
           config = kernel.config;
@@ -172,7 +177,8 @@ impl Walker {
 
     /// What the run was given.
     pub fn config(&self) -> Config
-        ensures { result ≡ self.now.config }
+        ensures config { result ≡ self.now.config }
+        ensures scheme { result.scheme ≡ Ownership }
     {
         self.config
     }

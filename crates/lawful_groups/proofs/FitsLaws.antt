@@ -1,26 +1,25 @@
 -- What is saved of a lawful world is in the ranges of its text.
-use Rattle.std.proofs.Common.{◌≡◌, ◌≢◌, ℕ, zero, suc, ◌+◌, ◌-◌, ◌*◌, ◌%◌, ◌^◌, ◌<◌, ◌≤◌, Bool, true}
-use Rattle.std.proofs.Common.{false, cond, not, ◌&&◌, ◌||◌, List, [], ◌∷◌, length, map, drop, take}
+use Rattle.std.proofs.Common.{◌≡◌, ◌≢◌, ℕ, zero, suc, ◌+◌, ◌-◌, ◌*◌, ◌%◌, ◌<◌, ◌≤◌, Bool, true}
+use Rattle.std.proofs.Common.{false, cond, not, ◌&&◌, ◌||◌, List, [], ◌∷◌, length, map, drop}
 use Rattle.std.proofs.Common.{get_or, set}
 use Rattle.std.proofs.Common.{slice_get, replicate, get_or-set_other}
-use Rattle.std.proofs.Common.{refl, sym, ap, subst, ◌∙◌, arith, Option, Some, None, inl, inr, leb}
-use Rattle.std.specs.Prelude.{All, AllPairs, IfSome, IsTrue, IsFalse, reverse, is_some, count_by}
-use Rattle.std.specs.Prelude.{nat_lt, slice_index, slice_index_or, ◌==◌, option_and_then}
-use Rattle.std.specs.Prelude.{if◌then◌else◌}
+use Rattle.std.proofs.Common.{refl, sym, ap, subst, ◌∙◌, arith, Option, Some, None, inl, inr}
+use Rattle.std.specs.Prelude.{All, AllPairs, IfSome, reverse, count_by}
+use Rattle.std.specs.Prelude.{nat_lt, slice_index, slice_index_or, ◌==◌}
 use Rattle.std.specs.List.Sorted.{IsStrictlyIncreasing}
-use Rattle.std.proofs.lemmas.Bool.{le-leb, lt-ltb, eq-eqb, eqb-false, eqb-true}
-use Rattle.std.proofs.lemmas.List.{length-reverse, reverse-reverse, get_or-reverse, length-map}
+use Rattle.std.proofs.lemmas.Bool.{le-leb, lt-ltb, eq-eqb}
+use Rattle.std.proofs.lemmas.List.{length-reverse, reverse-reverse, get_or-reverse}
 use Rattle.std.proofs.lemmas.List.{length-replicate, get_or-replicate, length-take-le, length-drop}
 use Rattle.std.proofs.lemmas.List.Sums.{sum_by-cons, sum_by-set, count_by-le-length}
 use Rattle.std.proofs.lemmas.List.Elements.{All-nil, All-cons, All-head, All-tail, All-take}
 use Rattle.std.proofs.lemmas.List.Elements.{All-drop}
 use Rattle.dos_world.specs.World.{Life, live, ended, Holdings, Process, Thread, Registers, Sleeper}
-use Rattle.dos_world.specs.World.{has_bit, page_size, code_unit, holdings_of, all_holdings, get}
+use Rattle.dos_world.specs.World.{page_size, code_unit, all_holdings}
 use Rattle.dos_world.specs.World.{page_of}
-use Rattle.dos_world.specs.Numbered.{numbered, map_from}
+use Rattle.dos_world.specs.Numbered.{map_from}
 use Rattle.dos_world.specs.SignalCalls.{is_action}
 use Rattle.dos_world.specs.Lawful.{IsWord, IsByte, IsPending, IsMask, IsAction, IsEnd, IsPage}
-use Rattle.dos_world.specs.Lawful.{AreRegisters, IsSaved, IsSleeper, IsPipe, AreHoldings, IsThread}
+use Rattle.dos_world.specs.Lawful.{AreRegisters, IsSaved, IsSleeper, IsPipe, AreHoldings}
 use Rattle.dos_world.specs.Lawful.{HasStatus}
 use Rattle.dos_world.specs.declared.Entry.{Entry}
 use Rattle.dos_world.specs.declared.End.{End}

@@ -1,9 +1,9 @@
 -- What is lawful passes the test.
-use Rattle.std.proofs.Common.{ℕ, zero, suc, ◌+◌, ◌*◌, ◌%◌, ◌^◌, ◌<◌, ◌≤◌, ◌≡◌, ◌≢◌, ◌⊎◌, inl, inr}
+use Rattle.std.proofs.Common.{ℕ, zero, suc, ◌+◌, ◌*◌, ◌%◌, ◌^◌, ◌<◌, ◌≤◌, ◌≡◌, ◌≢◌, inl, inr}
 use Rattle.std.proofs.Common.{refl, sym, ap, ◌∙◌, subst, Bool, cond, true, false, not, List, []}
 use Rattle.std.proofs.Common.{◌∷◌, length, map, take, drop, Option, Some, None, arith}
-use Rattle.std.specs.Prelude.{filter, option_and_then, ◌&&◌, ◌||◌, ◌↔◌, ◌==◌, nat_lt, nat_le, All}
-use Rattle.std.specs.Prelude.{AllPairs, IsTrue, IsFalse, IfSome, is_some, count_by, slice_index_or}
+use Rattle.std.specs.Prelude.{filter, ◌&&◌, ◌||◌, ◌↔◌, ◌==◌, nat_lt, nat_le, All}
+use Rattle.std.specs.Prelude.{AllPairs, IsFalse, IfSome, is_some, slice_index_or}
 use Rattle.std.specs.List.{list_all}
 use Rattle.std.specs.List.Sorted.{IsStrictlyIncreasing}
 use Rattle.std.proofs.lemmas.Bool.{and_from, lt-ltb, le-leb, eq-eqb, not_from_false, true≢false}
@@ -12,10 +12,10 @@ use Rattle.std.proofs.lemmas.List.{get_or-take, get_or-drop, length-take, length
 use Rattle.std.proofs.lemmas.List.Sums.{list_all-from_AllPass, length-filter}
 use Rattle.dos_world.specs.Numbered.{numbered, run_of}
 use Rattle.dos_world.specs.World.{World, Process, status_of, Holdings, Thread, Sleeper, Registers}
-use Rattle.dos_world.specs.World.{flat, all_holdings, live_process, thread_at, live_threads}
-use Rattle.dos_world.specs.World.{threads_of, owner_of, is_free, is_state, has_bit, get}
-use Rattle.dos_world.specs.Lawful.{Lawful, FramesAreLawful, ProcessesAreLawful, ThreadsAreLawful}
-use Rattle.dos_world.specs.Lawful.{PipesAreLawful, IsWithinLimits, IsWithinRun, AreHoldings}
+use Rattle.dos_world.specs.World.{all_holdings, live_process, thread_at, live_threads}
+use Rattle.dos_world.specs.World.{threads_of, owner_of, is_free, has_bit, get}
+use Rattle.dos_world.specs.Lawful.{Lawful}
+use Rattle.dos_world.specs.Lawful.{AreHoldings}
 use Rattle.dos_world.specs.Lawful.{AreRegisters, IsThread, IsWord, IsByte, IsPending, IsMask}
 use Rattle.dos_world.specs.Lawful.{IsAction, IsEnd, IsPage, IsSaved, IsAlone, IsSleeper, IsPipe}
 use Rattle.dos_world.specs.Lawful.{HasStatus, turns_asleep}
@@ -35,7 +35,6 @@ use Rattle.dos_world.specs.declared.Owner.{Owner}
 use Rattle.dos_world.specs.declared.Owner.TheVariants.{Free, Shared, Of}
 use Rattle.dos_world.specs.declared.End.{End}
 use Rattle.dos_world.specs.declared.End.TheVariants.{Input, Output, Error, PipeRead, PipeWrite}
-use Rattle.dos_world.specs.declared.ThreadState.TheVariants.{Asleep}
 
 -- ---- lists
 

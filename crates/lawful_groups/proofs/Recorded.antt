@@ -1,28 +1,27 @@
 -- What is saved of a lawful world has a text, and stands for that world.
-use Rattle.std.proofs.Common.{◌≡◌, ℕ, zero, suc, ◌+◌, ◌-◌, ◌*◌, ◌^◌, ◌<◌, ◌≤◌, Bool, true, false}
-use Rattle.std.proofs.Common.{cond, List, [], ◌∷◌, ◌++◌, length, map, drop, take, get_or, slice_get}
+use Rattle.std.proofs.Common.{◌≡◌, ℕ, zero, suc, ◌+◌, ◌*◌, ◌<◌, ◌≤◌}
+use Rattle.std.proofs.Common.{List, [], ◌∷◌, ◌++◌, length, map, drop, get_or, slice_get}
 use Rattle.std.proofs.Common.{refl, sym, ap, subst, ◌∙◌, arith, Option, Some, None, replicate}
 use Rattle.std.specs.Prelude.{All, IfSome, IsTrue, is_some, option_and_then, slice_index}
-use Rattle.std.specs.Prelude.{slice_index_or, flat_map, count_by, ◌==◌}
-use Rattle.std.proofs.lemmas.Bool.{true≢false}
+use Rattle.std.specs.Prelude.{slice_index_or, flat_map}
 use Rattle.std.proofs.lemmas.Option.{slice_get_within}
 use Rattle.std.proofs.lemmas.List.{length-take-le, length-drop, get_or-take, get_or-drop, drop-drop}
 use Rattle.std.proofs.lemmas.List.{take-append-drop, nil_from_length}
 use Rattle.std.proofs.lemmas.List.Concat.{flat_map-cons}
 use Rattle.std.proofs.lemmas.List.Elements.{All-nil, All-cons}
-use Rattle.dos_world.specs.Numbered.{numbered, map_from, numbers_of, places_from}
+use Rattle.dos_world.specs.Numbered.{numbered, map_from, places_from}
 use Rattle.dos_world.specs.World.{World, Process, Thread, Sleeper, flat, holdings_of, thread_at}
-use Rattle.dos_world.specs.World.{live_threads, page_of, is_state}
-use Rattle.dos_world.specs.Lawful.{Lawful, IsWord, IsThread, IsSleeper, AreHoldings, IsPipe}
+use Rattle.dos_world.specs.World.{page_of}
+use Rattle.dos_world.specs.Lawful.{IsWord, IsThread, IsPipe}
 use Rattle.dos_world.specs.Lawful.{turns_asleep}
 use Rattle.dos_world.specs.declared.Config.{Config}
+use Rattle.dos_world.specs.declared.Scheme.{Scheme}
 use Rattle.dos_world.specs.declared.Owner.{Owner}
 use Rattle.dos_world.specs.declared.Owner.TheVariants.{Free, Shared, Of}
-use Rattle.dos_world.specs.declared.ThreadState.TheVariants.{Asleep}
-use Rattle.proc_table.specs.Spread.{living_from, spread, AreRising}
+use Rattle.proc_table.specs.Spread.{living_from, spread}
 use Rattle.proc_table.proofs.Spread.{living_rises, rising_wider, spread_living}
 use Rattle.text_fields.specs.Formats.{many}
-use Rattle.group_text.specs.Groups.{SavedGroup, frame_in, group_of, page_in, world_in}
+use Rattle.group_text.specs.Groups.{frame_in, group_of, page_in, world_in}
 use Rattle.group_text.specs.GroupText as row
 use Rattle.lawful_groups.specs.Recording.{IsRecordable, RecordsFit, WorldsComeBack}
 use Rattle.lawful_groups.proofs.FitsLaws.{ThreadFits, all_many, within, threads_fit, processes_fit}
@@ -164,7 +163,7 @@ module _ (digest : List ℕ) (used : ℕ) (config : Config) (w : World)
                     ),
                   ),
                 ),
-                refl,
+                ap (λ (s : Scheme). record config { scheme = s }) (sym is.scheme),
               ),
               (
                 (

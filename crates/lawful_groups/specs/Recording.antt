@@ -4,6 +4,7 @@ use Rattle.std.specs.Prelude.{ℕ, ◌≡◌, ◌<◌, ◌≤◌, ◌^◌, List,
 use Rattle.dos_world.specs.World.{World, thread_at}
 use Rattle.dos_world.specs.Lawful.{Lawful, IsConfig, IsWord}
 use Rattle.dos_world.specs.declared.Config.{Config}
+use Rattle.dos_world.specs.declared.Scheme.TheVariants.{Ownership}
 use Rattle.text_fields.specs.Formats.{AreBytes}
 use Rattle.group_text.specs.Groups.{group_of, world_in}
 use Rattle.group_text.specs.GroupText.{group_row}
@@ -15,6 +16,8 @@ pub record IsRecordable (digest : List ℕ) (used : ℕ) (config : Config) (w : 
   pub digest_bytes : AreBytes digest
   pub few_used : used < 2 ^ 32
   pub config_range : IsConfig config
+  -- no group names its scheme
+  pub scheme : config.scheme ≡ Ownership
   pub lawful : Lawful w
   -- as many frames as the run was given, and no more rounds than it may have
   pub frames : length w.owners ≡ config.frames

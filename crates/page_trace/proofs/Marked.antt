@@ -20,8 +20,8 @@ use Rattle.page_trace.specs.declared.stop.TraceStop.TheVariants.{Run, LineFault,
 
 module _ (config : Config) (ended : Option Ending) (s s' : State) (marked : List Owner)
     (b b' : BorderState) where
-  pub next_marked : PlaysNext config.quantum (Ok ended) s b s' b'
-      → PlaysNext config.quantum (Ok ended) s b (state_marked s' marked) b'
+  pub next_marked : PlaysNext config (Ok ended) s b s' b'
+      → PlaysNext config (Ok ended) s b (state_marked s' marked) b'
   next_marked h =
       let goes = h.plays.goes in
       record {

@@ -48,7 +48,7 @@ pub round_put : (config : Config) (ended : Option Ending) (r : Result (Option En
     → (round : ℕ) (kept : List Owner) → round ≡ s.round → kept ≡ s.frames.owners
     → OnOk r (lines' ≡ grown lines (change_lines (changes round kept s'.frames.owners)))
     → OnErr r (GrewByFront lines lines' (change_lines (changes round kept s'.frames.owners)))
-    → PlaysNext config.quantum (Ok ended) s b s' b' → PlaysSome config (Ok ended) s b s' b' t t'
+    → PlaysNext config (Ok ended) s b s' b' → PlaysSome config (Ok ended) s b s' b' t t'
     → s'.round ≡ next_round (end_by ended) s.round → HasNoEnd b'.shim.told
     → RoundTraces config r s b s' b' lines lines' t t'
 round_put config ended (Ok x) s s' b b' lines lines' t t' same only n kept number owners ok err
@@ -117,15 +117,15 @@ cause_later Memory first then last later rose = tt
 module _ (config here : Config) (old s s' : State) (b0 b b' : BorderState)
     (l0 l l' : Option (List ℕ)) (t0 t t' : ℕ) (same : here ≡ config)
     (some : PlaysSome config (Ok None) old b0 s b t0 t)
-    (traced : TracedSome config.quantum old (traced_at b0 l0) s (traced_at b l))
+    (traced : TracedSome config old (traced_at b0 l0) s (traced_at b l))
     (begun : 1 ≤ old.round) (later : old.round ≤ s.round) (allowed : s.round ≤ config.rounds)
   where
     first : 1 ≤ s.round
     first = omega (arith, begun, later)
 
-    next_as : (r : Result (Option Ending) RunStop) → PlaysNext here.quantum r s b s' b'
-        → PlaysNext config.quantum r s b s' b'
-    next_as r h = subst (λ (c : Config). PlaysNext c.quantum r s b s' b') same h
+    next_as : (r : Result (Option Ending) RunStop) → PlaysNext here r s b s' b'
+        → PlaysNext config r s b s' b'
+    next_as r h = subst (λ (c : Config). PlaysNext c r s b s' b') same h
 
     -- it stops, or its lines do
     pub rounds_stop : (stop : TraceStop) → RoundTraces here (Err stop) s b s' b' l l' t t'
@@ -177,7 +177,7 @@ module _ (config here : Config) (old s s' : State) (b0 b b' : BorderState)
 
     pub traced_more : (ended : Option Ending) → ended ≡ None
         → TracedRound here ended s b s' b' l l' t t'
-        → TracedSome config.quantum old (traced_at b0 l0) s' (traced_at b' l')
+        → TracedSome config old (traced_at b0 l0) s' (traced_at b' l')
     traced_more None is h =
         let k = next_as (Ok None) h.plays in
         traced_went config old s s' b b' (traced_at b0 l0) (traced_at b l) (traced_at b' l') traced
@@ -193,7 +193,7 @@ numbered (Some ending) start round i now is counted before = absurd cc
 pub rounds_over : (config here : Config) (old s : State) (b0 b : BorderState)
     (l0 l : Option (List ℕ)) (t0 t i : ℕ) (ending : Ending) → here ≡ config
     → PlaysSome config (Ok None) old b0 s b t0 t
-    → TracedSome config.quantum old (traced_at b0 l0) s (traced_at b l) → 1 ≤ old.round
+    → TracedSome config old (traced_at b0 l0) s (traced_at b l) → 1 ≤ old.round
     → s.round ≡ old.round + i → config.rounds - (old.round - 1) ≤ i
     → s.round - 1 ≤ here.rounds
     → PlaysSome here (Ok (Some ending)) s b s b t t

@@ -10,6 +10,7 @@ use Rattle.dos_world.specs.declared.Config.{Config}
 use Rattle.dos_world.specs.declared.Ending.{Ending}
 use Rattle.dos_world.specs.declared.Ending.TheVariants.{Done as done_ending, Limit as limit_ending}
 use Rattle.dos_world.specs.declared.Ending.TheVariants.{Stalled as stalled_ending}
+use Rattle.dos_world.specs.declared.Scheme.{Scheme}
 use Rattle.dos_laws.specs.Plays.{world_ended}
 use Rattle.flat_machine.specs.Round.{RoundEnd as FlatEnd, round_of}
 use Rattle.dos_io.specs.Borders.{BorderState, bytes_to, exchanges_of}
@@ -40,22 +41,22 @@ use Rattle.page_trace.proofs.Changes.{lines_more}
 -- ---- one round
 
 -- what a trace comes to by what its first round comes to
-abbrev by_round : ℕ → World → Outcome FlatEnd → List Change
-by_round left w (asks question output error) = []
-by_round left w (gives end rest) =
+abbrev by_round : Scheme → ℕ → World → Outcome FlatEnd → List Change
+by_round scheme left w (asks question output error) = []
+by_round scheme left w (gives end rest) =
     changes (w.rounds + 1) w.owners (world_ended end).owners
-    ++ (if is_followed end then trace_rounds left (world_ended end) rest else [])
+    ++ (if is_followed end then trace_rounds scheme left (world_ended end) rest else [])
 
-by_first : (left : ℕ) (w : World) (answers : List Answer)
-    → trace_rounds (suc left) w answers ≡ by_round left w (over answers (round_of w))
-by_first left w answers = go (over answers (round_of w))
+by_first : (scheme : Scheme) (left : ℕ) (w : World) (answers : List Answer)
+    → trace_rounds scheme (suc left) w answers ≡ by_round scheme left w (over answers (round_of scheme w))
+by_first scheme left w answers = go (over answers (round_of scheme w))
   where
     go : (x : Outcome FlatEnd) → elim x as (λ _. List Change) [
       | asks question output error ↦ []
       | gives end rest ↦
           changes (w.rounds + 1) w.owners (world_ended end).owners
-          ++ (if is_followed end then trace_rounds left (world_ended end) rest else [])
-    ] ≡ by_round left w x
+          ++ (if is_followed end then trace_rounds scheme left (world_ended end) rest else [])
+    ] ≡ by_round scheme left w x
     go (asks question output error) = refl
     go (gives end rest) = refl
 
@@ -64,33 +65,33 @@ ended_in Went work w = refl
 ended_in Done work w = refl
 ended_in Stalled work w = refl
 
-module _ (q : ℕ) (s s' : State) (b b' : BorderState) (so : RoundEnd) (work : ℕ)
-    (h : PlaysOn q (λ w. round_of w) s b (λ w. done (end_in so work w)) s' b') (first : 1 ≤ s.round)
+module _ (config : Config) (s s' : State) (b b' : BorderState) (so : RoundEnd) (work : ℕ)
+    (h : PlaysOn config.quantum (λ w. round_of config.scheme w) s b (λ w. done (end_in so work w)) s' b') (first : 1 ≤ s.round)
     (o e : List ℕ) where
   -- the world in which it ended
   abbrev last : World
-  last = sent_then h.crossings o e (world_of q s')
+  last = sent_then h.crossings o e (world_of config.quantum s')
 
   -- its changes, and then the trace of what follows
   round_is : (left : ℕ) (rest : List Answer)
-      → trace_rounds (suc left) (sent o e (world_of q s))
+      → trace_rounds config.scheme (suc left) (sent o e (world_of config.quantum s))
       (map answer_of (exchanges_of h.crossings) ++ rest)
       ≡ changes s.round s.frames.owners s'.frames.owners
-      ++ (if is_followed (end_in so work last) then trace_rounds left
+      ++ (if is_followed (end_in so work last) then trace_rounds config.scheme left
       (world_ended (end_in so work last)) rest else [])
   round_is left rest =
-      by_first left (sent o e (world_of q s)) (map answer_of (exchanges_of h.crossings) ++ rest)
-      ∙ ap (by_round left (sent o e (world_of q s)))
-      (goes-over_more (exchanges_of h.crossings) rest (round_of (sent o e (world_of q s)))
+      by_first config.scheme left (sent o e (world_of config.quantum s)) (map answer_of (exchanges_of h.crossings) ++ rest)
+      ∙ ap (by_round config.scheme left (sent o e (world_of config.quantum s)))
+      (goes-over_more (exchanges_of h.crossings) rest (round_of config.scheme (sent o e (world_of config.quantum s)))
       (done (end_in so work last))
-      (goes-exchanges o e h.crossings (round_of (sent o e (world_of q s)))
+      (goes-exchanges o e h.crossings (round_of config.scheme (sent o e (world_of config.quantum s)))
       (done (end_in so work last)) (h.goes o e)))
       ∙ ap (λ n. changes n s.frames.owners (world_ended (end_in so work last)).owners
-      ++ (if is_followed (end_in so work last) then trace_rounds left
+      ++ (if is_followed (end_in so work last) then trace_rounds config.scheme left
       (world_ended (end_in so work last)) rest else []))
       (let n : (s.round - 1) + 1 ≡ s.round = omega (arith, first) in n)
       ∙ ap (λ (w : World). changes s.round s.frames.owners w.owners
-      ++ (if is_followed (end_in so work last) then trace_rounds left
+      ++ (if is_followed (end_in so work last) then trace_rounds config.scheme left
       (world_ended (end_in so work last)) rest else [])) (ended_in so work last)
 
 -- what is told by a border, as the trace has it
@@ -110,7 +111,7 @@ not_followed (Some stalled_ending) ending work w is = refl
 
 -- Whatever is answered further, the trace from the old state is these changes, and then the trace
 -- from the state now. The lines grew by those changes' lines.
-pub record TracedSome (q : ℕ) (old : State) (before : Traced) (now : State) (after : Traced) :
+pub record TracedSome (config : Config) (old : State) (before : Traced) (now : State) (after : Traced) :
     Type 0 where
   pub exchanges : List Exchange
   pub told_is : after.exchanges ≡ before.exchanges ++ exchanges
@@ -119,24 +120,24 @@ pub record TracedSome (q : ℕ) (old : State) (before : Traced) (now : State) (a
   pub so_far : List Change
   pub lines_are : after.lines ≡ grown before.lines (change_lines so_far)
   pub traces : (left : ℕ) (rest : List Answer)
-      → trace_rounds ((now.round - old.round) + left) (world_of q old)
+      → trace_rounds config.scheme ((now.round - old.round) + left) (world_of config.quantum old)
       (map answer_of exchanges ++ rest)
-      ≡ so_far ++ trace_rounds left (sent output error (world_of q now)) rest
+      ≡ so_far ++ trace_rounds config.scheme left (sent output error (world_of config.quantum now)) rest
 
-pub traced_none : (q : ℕ) (s : State) (t : Traced) → TracedSome q s t s t
-traced_none q s t = record {
+pub traced_none : (config : Config) (s : State) (t : Traced) → TracedSome config s t s t
+traced_none config s t = record {
   exchanges = [];
   told_is = sym (append-nil t.exchanges);
   output = [];
   error = [];
   so_far = [];
   lines_are = grown-nothing t.lines;
-  traces = λ left rest. ap (λ n. trace_rounds n (world_of q s) rest)
+  traces = λ left rest. ap (λ n. trace_rounds config.scheme n (world_of config.quantum s) rest)
       (let n : (s.round - s.round) + left ≡ left = omega arith in n);
 }
 
 module _ (config : Config) (old s s' : State) (b b' : BorderState) (before t t' : Traced)
-    (some : TracedSome config.quantum old before s t) (first : 1 ≤ s.round)
+    (some : TracedSome config old before s t) (first : 1 ≤ s.round)
     (later : old.round ≤ s.round) (begun : 1 ≤ old.round) where
   abbrev w0 : World
   w0 = world_of config.quantum old
@@ -157,12 +158,12 @@ module _ (config : Config) (old s s' : State) (b b' : BorderState) (before t t' 
   -- the trace over them, of as many rounds as were run and so many more
   trace_then : (n left : ℕ) (es : List Exchange) (rest : List Answer)
       → n ≡ (s.round - old.round) + left
-      → trace_rounds n w0 (map answer_of (some.exchanges ++ es) ++ rest)
+      → trace_rounds config.scheme n w0 (map answer_of (some.exchanges ++ es) ++ rest)
       ≡ some.so_far
-      ++ trace_rounds left (sent some.output some.error (world_of config.quantum s))
+      ++ trace_rounds config.scheme left (sent some.output some.error (world_of config.quantum s))
       (map answer_of es ++ rest)
   trace_then n left es rest is =
-      ap₂ (λ m answers. trace_rounds m w0 answers) is (answers_are es rest)
+      ap₂ (λ m answers. trace_rounds config.scheme m w0 answers) is (answers_are es rest)
       ∙ some.traces left (map answer_of es ++ rest)
 
   -- of all that the configuration leaves
@@ -180,11 +181,11 @@ module _ (config : Config) (old s s' : State) (b b' : BorderState) (before t t' 
 
   -- a round more, behind which another may follow
   pub traced_went : (work : ℕ)
-      (h : PlaysOn config.quantum (λ w. round_of w) s b (λ w. done (end_in Went work w)) s' b')
+      (h : PlaysOn config.quantum (λ w. round_of config.scheme w) s b (λ w. done (end_in Went work w)) s' b')
       → s'.round ≡ s.round + 1 → t'.exchanges ≡ t.exchanges ++ exchanges_of h.crossings
       → t'.lines
       ≡ grown t.lines (change_lines (changes s.round s.frames.owners s'.frames.owners))
-      → TracedSome config.quantum old before s' t'
+      → TracedSome config old before s' t'
   traced_went work h round told lines = record {
     exchanges = some.exchanges ++ exchanges_of h.crossings;
     told_is = more_told (exchanges_of h.crossings) told;
@@ -197,15 +198,15 @@ module _ (config : Config) (old s s' : State) (b b' : BorderState) (before t t' 
         (let n : (s'.round - old.round) + left ≡ (s.round - old.round) + suc left =
         omega (arith, round, later) in n)
         ∙ ap (λ cs. some.so_far ++ cs)
-        (round_is config.quantum s s' b b' Went work h first some.output some.error left rest)
+        (round_is config s s' b b' Went work h first some.output some.error left rest)
         ∙ sym (append_assoc some.so_far (changes s.round s.frames.owners s'.frames.owners)
-        (trace_rounds left
+        (trace_rounds config.scheme left
         (sent_then h.crossings some.output some.error (world_of config.quantum s')) rest));
   }
 
   -- a round more, with which the run ends
   pub traced_last : (ended : Option Ending) (ending : Ending) (work : ℕ)
-      (h : PlaysOn config.quantum (λ w. round_of w) s b (λ w. done (end_in (end_by ended) work w))
+      (h : PlaysOn config.quantum (λ w. round_of config.scheme w) s b (λ w. done (end_in (end_by ended) work w))
       s' b')
       → ended ≡ Some ending → s.round ≤ config.rounds
       → t'.exchanges ≡ t.exchanges ++ exchanges_of h.crossings
@@ -227,17 +228,17 @@ module _ (config : Config) (old s s' : State) (b b' : BorderState) (before t t' 
       w = sent_then h.crossings some.output some.error (world_of config.quantum s')
 
       whole : (rest : List Answer)
-          → trace_rounds (config.rounds - (old.round - 1)) w0
+          → trace_rounds config.scheme (config.rounds - (old.round - 1)) w0
           (map answer_of (some.exchanges ++ exchanges_of h.crossings) ++ rest)
           ≡ some.so_far ++ changes s.round s.frames.owners s'.frames.owners
       whole rest =
           trace_then (config.rounds - (old.round - 1)) (suc (config.rounds - s.round))
           (exchanges_of h.crossings) rest (all_left allowed)
           ∙ ap (λ cs. some.so_far ++ cs)
-          (round_is config.quantum s s' b b' (end_by ended) work h first some.output some.error
+          (round_is config s s' b b' (end_by ended) work h first some.output some.error
           (config.rounds - s.round) rest
           ∙ ap (λ b. changes s.round s.frames.owners s'.frames.owners
-          ++ (if b then trace_rounds (config.rounds - s.round)
+          ++ (if b then trace_rounds config.scheme (config.rounds - s.round)
           (world_ended (end_in (end_by ended) work (sent_then h.crossings some.output some.error
           (world_of config.quantum s')))) rest else []))
           (not_followed ended ending work (sent_then h.crossings some.output some.error
@@ -246,7 +247,7 @@ module _ (config : Config) (old s s' : State) (b b' : BorderState) (before t t' 
 
   -- a round more, whose lines fail
   pub traced_fault : (so : RoundEnd) (work : ℕ)
-      (h : PlaysOn config.quantum (λ w. round_of w) s b (λ w. done (end_in so work w)) s' b')
+      (h : PlaysOn config.quantum (λ w. round_of config.scheme w) s b (λ w. done (end_in so work w)) s' b')
       → s.round ≤ config.rounds → t'.exchanges ≡ t.exchanges ++ exchanges_of h.crossings
       → GrewByFront t.lines t'.lines
       (change_lines (changes s.round s.frames.owners s'.frames.owners))
@@ -262,7 +263,7 @@ module _ (config : Config) (old s s' : State) (b b' : BorderState) (before t t' 
     where
       tail : List Change
       tail = if is_followed (end_in so work (sent_then h.crossings some.output some.error
-          (world_of config.quantum s'))) then trace_rounds (config.rounds - s.round)
+          (world_of config.quantum s'))) then trace_rounds config.scheme (config.rounds - s.round)
           (world_ended (end_in so work (sent_then h.crossings some.output some.error
           (world_of config.quantum s')))) [] else []
 
@@ -276,7 +277,7 @@ module _ (config : Config) (old s s' : State) (b b' : BorderState) (before t t' 
           ∙ ap change_lines (trace_then (config.rounds - (old.round - 1))
           (suc (config.rounds - s.round)) (exchanges_of h.crossings) [] (all_left allowed)
           ∙ ap (λ cs. some.so_far ++ cs)
-          (round_is config.quantum s s' b b' so work h first some.output some.error
+          (round_is config s s' b b' so work h first some.output some.error
           (config.rounds - s.round) []))
           ∙ lines_more some.so_far (changes s.round s.frames.owners s'.frames.owners ++ tail)
           ∙ ap (λ xs. change_lines some.so_far ++ xs)
@@ -284,7 +285,7 @@ module _ (config : Config) (old s s' : State) (b b' : BorderState) (before t t' 
 
   -- the shim stops in the round
   traced_stop : (why : ShimStop)
-      (k : StopsAsking config.quantum (λ w. round_of w) why s b b')
+      (k : StopsAsking config.quantum (λ w. round_of config.scheme w) why s b b')
       → s.round ≤ config.rounds → t'.exchanges ≡ t.exchanges ++ exchanges_of k.crossings
       → t'.lines ≡ t.lines → TracesBy (trace_lines config old) before t'
   traced_stop why k allowed told lines = record {
@@ -297,29 +298,29 @@ module _ (config : Config) (old s s' : State) (b b' : BorderState) (before t t' 
       here : World
       here = sent some.output some.error (world_of config.quantum s)
 
-      nothing : trace_rounds (suc (config.rounds - s.round))
+      nothing : trace_rounds config.scheme (suc (config.rounds - s.round))
           (sent some.output some.error (world_of config.quantum s))
           (map answer_of (exchanges_of k.crossings) ++ []) ≡ []
       nothing =
           let there = k.goes some.output some.error in
-          by_first (config.rounds - s.round)
+          by_first config.scheme (config.rounds - s.round)
           (sent some.output some.error (world_of config.quantum s))
           (map answer_of (exchanges_of k.crossings) ++ [])
-          ∙ ap (by_round (config.rounds - s.round)
+          ∙ ap (by_round config.scheme (config.rounds - s.round)
           (sent some.output some.error (world_of config.quantum s)))
           (goes-over_more (exchanges_of k.crossings) []
-          (round_of (sent some.output some.error (world_of config.quantum s)))
+          (round_of config.scheme (sent some.output some.error (world_of config.quantum s)))
           (ask k.question (some.output ++ bytes_to Output k.crossings)
           (some.error ++ bytes_to Error k.crossings) there.0)
           (goes-exchanges some.output some.error k.crossings
-          (round_of (sent some.output some.error (world_of config.quantum s)))
+          (round_of config.scheme (sent some.output some.error (world_of config.quantum s)))
           (ask k.question (some.output ++ bytes_to Output k.crossings)
           (some.error ++ bytes_to Error k.crossings) there.0) there.1))
 
-      whole : trace_rounds (config.rounds - (old.round - 1)) w0
+      whole : trace_rounds config.scheme (config.rounds - (old.round - 1)) w0
           (map answer_of (some.exchanges ++ exchanges_of k.crossings)) ≡ some.so_far
       whole =
-          ap (λ answers. trace_rounds (config.rounds - (old.round - 1)) w0 answers)
+          ap (λ answers. trace_rounds config.scheme (config.rounds - (old.round - 1)) w0 answers)
           (sym (append-nil (map answer_of (some.exchanges ++ exchanges_of k.crossings))))
           ∙ trace_then (config.rounds - (old.round - 1)) (suc (config.rounds - s.round))
           (exchanges_of k.crossings) [] (all_left allowed)
@@ -337,17 +338,17 @@ module _ (config : Config) (old s s' : State) (b b' : BorderState) (before t t' 
         ∙ ap (λ cs. grown before.lines (change_lines cs)) (sym whole);
   }
     where
-      whole : trace_rounds (s'.round - old.round) w0 (map answer_of (some.exchanges ++ es))
+      whole : trace_rounds config.scheme (s'.round - old.round) w0 (map answer_of (some.exchanges ++ es))
           ≡ some.so_far
       whole =
-          ap (λ answers. trace_rounds (s'.round - old.round) w0 answers)
+          ap (λ answers. trace_rounds config.scheme (s'.round - old.round) w0 answers)
           (sym (append-nil (map answer_of (some.exchanges ++ es))))
           ∙ trace_then (s'.round - old.round) 0 es []
           (let n : s'.round - old.round ≡ (s.round - old.round) + 0 = omega (arith, round) in n)
           ∙ append-nil some.so_far
 
   pub traced_stops : (stop : RunStop)
-      → PlaysNext config.quantum (Err stop) s b s' b' → s.round ≤ config.rounds
+      → PlaysNext config (Err stop) s b s' b' → s.round ≤ config.rounds
       → s'.round ≡ s.round → t.exchanges ≡ b.shim.told → t'.exchanges ≡ b'.shim.told
       → t'.lines ≡ t.lines → StopTraces (shim_stop stop) config old s' before t'
   traced_stops HostFault k allowed round from to lines =
@@ -365,7 +366,7 @@ module _ (config : Config) (old s s' : State) (b b' : BorderState) (before t t' 
 
 -- no round is left
 pub traced_over : (config : Config) (old s : State) (before t : Traced)
-    → TracedSome config.quantum old before s t → config.rounds ≤ s.round - 1
+    → TracedSome config old before s t → config.rounds ≤ s.round - 1
     → s.round - 1 ≤ config.rounds → 1 ≤ old.round → old.round ≤ s.round
     → TracesRounds config old before t
 traced_over config old s before t some past within begun later = record {
@@ -376,10 +377,10 @@ traced_over config old s before t some past within begun later = record {
 }
   where
     whole : (rest : List Answer)
-        → trace_rounds (config.rounds - (old.round - 1)) (world_of config.quantum old)
+        → trace_rounds config.scheme (config.rounds - (old.round - 1)) (world_of config.quantum old)
         (map answer_of some.exchanges ++ rest) ≡ some.so_far
     whole rest =
-        ap (λ n. trace_rounds n (world_of config.quantum old)
+        ap (λ n. trace_rounds config.scheme n (world_of config.quantum old)
         (map answer_of some.exchanges ++ rest))
         (let n : config.rounds - (old.round - 1) ≡ (s.round - old.round) + 0 =
         omega (arith, past, within, begun, later) in n)

@@ -6,6 +6,7 @@ use Rattle.dos_world.specs.Play.{Answer, gives, asks}
 use Rattle.dos_world.specs.declared.Config.{Config}
 use Rattle.dos_world.specs.declared.Owner.{Owner}
 use Rattle.dos_world.specs.declared.Owner.TheVariants.{Free, Shared, Of}
+use Rattle.dos_world.specs.declared.Scheme.{Scheme}
 use Rattle.dos_laws.specs.Plays.{world_ended}
 use Rattle.flat_machine.specs.Round.{RoundEnd, went, finished, stalled, round}
 
@@ -51,18 +52,19 @@ is_followed (went w work) = true
 is_followed (finished w) = false
 is_followed (stalled w) = false
 
--- At most so many rounds from a world, over these answers of the shim: the changes of each that
--- came to its end, under the number that it asked with.
-abbrev pub trace_rounds : ℕ → World → List Answer → List Change
-trace_rounds zero w answers = []
-trace_rounds (suc n) w answers =
-    elim (round w answers) [
+-- At most so many rounds of a scheme from a world, over these answers of the shim: the changes of
+-- each that came to its end, under the number that it asked with. In the buffered scheme owners
+-- change in the serial phase alone.
+abbrev pub trace_rounds : Scheme → ℕ → World → List Answer → List Change
+trace_rounds scheme zero w answers = []
+trace_rounds scheme (suc n) w answers =
+    elim (round scheme w answers) [
       | asks question output error ↦ []
       | gives end rest ↦
           changes (w.rounds + 1) w.owners (world_ended end).owners
-          ++ (if is_followed end then trace_rounds n (world_ended end) rest else [])
+          ++ (if is_followed end then trace_rounds scheme n (world_ended end) rest else [])
     ]
 
 -- the rounds that the configuration leaves
 abbrev pub trace : World → Config → List Answer → List Change
-trace w config answers = trace_rounds (config.rounds - w.rounds) w answers
+trace w config answers = trace_rounds config.scheme (config.rounds - w.rounds) w answers

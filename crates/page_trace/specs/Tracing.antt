@@ -52,7 +52,7 @@ trace_lines config old answers =
 -- the lines of at most so many rounds of it
 abbrev pub round_lines : Config → (rounds : ℕ) → State → List Answer → List ℕ
 round_lines config rounds old answers =
-    change_lines (trace_rounds rounds (world_of config.quantum old) answers)
+    change_lines (trace_rounds config.scheme rounds (world_of config.quantum old) answers)
 
 -- After a stop of the shim they are those over all that was told. A sink of the guests may fail
 -- when all is told of its round that is asked, and then they are those of the rounds before it,
@@ -117,7 +117,7 @@ Counts config old told told_after tally tally_after =
 pub record TracedRound (config : Config) (ended : Option Ending) (old : State)
     (before : BorderState) (new : State) (after : BorderState) (lines lines_after : Option (List ℕ))
     (tally tally_after : ℕ) : Type 0 where
-  pub plays : PlaysNext config.quantum (Ok ended) old before new after
+  pub plays : PlaysNext config (Ok ended) old before new after
   pub some : PlaysSome config (Ok ended) old before new after tally tally_after
   pub round : new.round ≡ next_round (end_by ended) old.round
   pub running : HasNoEnd after.shim.told
@@ -127,7 +127,7 @@ pub record TracedRound (config : Config) (ended : Option Ending) (old : State)
 pub record UntracedRound (config : Config) (stop : RunStop) (old : State) (before : BorderState)
     (new : State) (after : BorderState) (lines lines_after : Option (List ℕ))
     (tally tally_after : ℕ) : Type 0 where
-  pub plays : PlaysNext config.quantum (Err stop) old before new after
+  pub plays : PlaysNext config (Err stop) old before new after
   pub some : PlaysSome config (Err stop) old before new after tally tally_after
   pub uncounted : new.round ≡ old.round
   pub lines_stay : lines_after ≡ lines
@@ -137,7 +137,7 @@ pub record CutLinesOfRound (config : Config) (old : State) (before : BorderState
     (after : BorderState) (lines lines_after : Option (List ℕ)) (tally tally_after : ℕ) : Type 0
   where
     pub ended : Option Ending
-    pub plays : PlaysNext config.quantum (Ok ended) old before new after
+    pub plays : PlaysNext config (Ok ended) old before new after
     pub some : PlaysSome config (Ok ended) old before new after tally tally_after
     pub front : GrewByFront lines lines_after (lines_between old new)
 

@@ -2,6 +2,8 @@
 use Rattle.std.proofs.Common.{ℕ, zero, suc, ◌+◌, ◌≡◌, ◌∙◌, refl, sym, ap, subst, arith, List}
 use Rattle.std.proofs.Common.{◌∷◌, map, Option, Some, None}
 use Rattle.dos_world.specs.Play.{gives}
+use Rattle.dos_world.specs.declared.Config.{Config}
+use Rattle.dos_world.specs.declared.Scheme.TheVariants.{Ownership}
 use Rattle.debug_session.specs.Positions.{at_start}
 use Rattle.debug_session.specs.Recordings.{LogEntry, recorded, recorded_from}
 use Rattle.flat_machine.specs.Opening.{opening}
@@ -100,7 +102,8 @@ module _ (limit : ℕ) where
           none reached left (behind_first n entries rest m next some ∙ is)))
           ∙ sym (first.moves n)
 
--- Each history has a start.
+-- Each history has a start. Its moves are those of the ownership scheme, whatever scheme the
+-- configuration names.
 pub starts : RunsAreTheirMoves → HistoriesStart
 starts runs images config entries = (
   at_start first (recorded ends.moves images config entries),
@@ -114,8 +117,11 @@ starts runs images config entries = (
     first : Moment
     first = first_moment (opening images config)
 
-    ends : EndsAs (opening images config) config (map answer_in entries)
-    ends = runs (opening images config) config (map answer_in entries)
+    owned : Config
+    owned = record config { scheme = Ownership }
+
+    ends : EndsAs (opening images config) owned (map answer_in entries)
+    ends = runs (opening images config) owned (map answer_in entries) refl
 
     over : IsHistoryOver config.rounds
         (walk ends.moves config.rounds (map answer_in entries) first)

@@ -7,6 +7,7 @@ use Rattle.dos_world.specs.World.{World, thread_at}
 use Rattle.dos_world.specs.declared.Config.{Config}
 use Rattle.dos_world.specs.declared.Ending.{Ending}
 use Rattle.dos_world.specs.declared.Misfit.{Misfit}
+use Rattle.dos_world.specs.declared.Scheme.TheVariants.{Ownership}
 use Rattle.debug_session.specs.Positions.{Position, at_start, first_kind, moved_on}
 use Rattle.debug_session.specs.Positions.{position_after}
 use Rattle.debug_session.specs.Recordings.{LogEntry, Recording, misfit_here, recorded}
@@ -143,11 +144,12 @@ pub record IsLastExit (at : Position) : Type 0 where
 
 -- ---- opening
 
--- Of these images and this configuration a group can be opened.
+-- Of these images and this configuration a group of the ownership scheme can be opened.
 pub record IsOpenable (images : List Image) (config : Config) : Type 0 where
   pub some : 1 ≤ length images
   pub few : length images ≤ 8
   pub range : IsConfig config
+  pub scheme : config.scheme ≡ Ownership
   pub room : needed images ≤ config.frames
 
 -- There was no memory, or not as many frames as the images need.

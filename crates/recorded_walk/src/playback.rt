@@ -5,6 +5,7 @@ ghost use Rattle.debug_session.specs.Positions.{Position, first_kind, position_a
 ghost use Rattle.debug_session.specs.Recordings.{Recording};
 ghost use Rattle.dos_world.specs.Lawful.{IsConfig};
 ghost use Rattle.dos_world.specs.World.{World};
+ghost use Rattle.dos_world.specs.declared.Scheme.TheVariants.{Ownership};
 ghost use Rattle.flat_machine.specs.Opening.{needed};
 ghost use Rattle.group_moves.specs.Moments.{ending_at, kind_at};
 ghost use Rattle.group_moves.specs.Moves.{MoveKind as Move};
@@ -117,7 +118,7 @@ fn ending_of(state: &State) -> Ending
 }
 
 impl Playback {
-    /// At the start of the history of these images over a log.
+    /// At the start of the history of these images over a log, in the ownership scheme.
     pub fn open(
         alloc: Global,
         images: Vec<Image>,
@@ -127,6 +128,7 @@ impl Playback {
         requires some { 1 ≤ length images.items }
         requires few { length images.items ≤ 8 }
         requires config { IsConfig config }
+        requires scheme { config.scheme ≡ Ownership }
         ensures images { IfOk result (λ p. p.images ≡ images.items) }
         ensures config { IfOk result (λ p. p.config ≡ config) }
         ensures entries { IfOk result (λ p. p.entries ≡ log_entries log) }

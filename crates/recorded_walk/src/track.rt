@@ -2,6 +2,7 @@
 ghost use Rattle.std.specs.Prelude.{◌≡◌, ◌≤◌, ◌<◌, ◌+◌, [], IfOk, IfErr, IsErrOf, OnOk, length};
 ghost use Rattle.dos_world.specs.Lawful.{IsConfig};
 ghost use Rattle.dos_world.specs.declared.Misfit.{Misfit};
+ghost use Rattle.dos_world.specs.declared.Scheme.TheVariants.{Ownership};
 ghost use Rattle.flat_machine.specs.Opening.{needed, opening};
 ghost use Rattle.group_moves.specs.Moments.{Moment, first_moment};
 ghost use Rattle.kernel_calls.specs.declared.state.RunStop.TheVariants as stops;
@@ -55,6 +56,7 @@ impl Track {
         requires some { 1 ≤ length images.now }
         requires few { length images.now ≤ 8 }
         requires config { IsConfig config }
+        requires scheme { config.scheme ≡ Ownership }
         ensures on_track { IfOk result IsOnTrack }
         ensures come { IfOk result (HasCome (first_moment (opening images.now config))) }
         ensures start { IfOk result (λ t. t.moves ≡ 0) }
@@ -91,6 +93,7 @@ impl Track {
         requires some { 1 ≤ length images.now }
         requires few { length images.now ≤ 8 }
         requires config { IsConfig config }
+        requires scheme { config.scheme ≡ Ownership }
         requires whole { self.old.shim.start ≡ 0 }
         ensures on_track { OnOk result (IsOnTrack self.new) }
         ensures come { OnOk result (HasCome (first_moment (opening images.now config)) self.new) }

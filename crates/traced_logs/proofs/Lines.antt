@@ -3,6 +3,7 @@ use Rattle.std.proofs.Common.{◌≡◌, ℕ, sym, ap, ◌∙◌, subst, List, [
 use Rattle.std.proofs.Common.{None, take}
 use Rattle.dos_world.specs.World.{World}
 use Rattle.dos_world.specs.declared.Config.{Config}
+use Rattle.dos_world.specs.declared.Scheme.TheVariants.{Ownership}
 use Rattle.dos_io.specs.Exchanges.{answer_of}
 use Rattle.dos_io.specs.Outside.{grown, GrewByFront}
 use Rattle.dos_io.specs.Shims.{HasNoEnd}
@@ -49,7 +50,7 @@ module _ (k : Held) (images : List Image) (config : Config) (opened : IsOpenedWi
 
 module _ (k : Held) (before : List Exchange) (fresh : before ≡ []) (p : ReplayState) (log : Log)
     (same : p.log ≡ log) (first : p.start ≡ 0) (images : List Image)
-    (opened : IsOpenedWith k images (config_of log.header)) (l l' : Option (List ℕ)) where
+    (opened : IsOpenedWith k images (config_of Ownership log.header)) (l l' : Option (List ℕ)) where
   abbrev told : List Exchange
   told = (replayer_state p).told
 
@@ -66,19 +67,19 @@ module _ (k : Held) (before : List Exchange) (fresh : before ≡ []) (p : Replay
       let fits : FitsLog p.log = subst FitsLog (sym same) fits in
       let all : told ≡ exchanges p.log =
       ends_whole p fits ended ∙ ap (λ (n : ℕ). exchanges_from n p.log) first in
-      lines_grew k images (config_of log.header) opened before told l l' fresh h
-      ∙ ap (λ es. grown l (group_lines images (config_of log.header) es))
+      lines_grew k images (config_of Ownership log.header) opened before told l l' fresh h
+      ∙ ap (λ es. grown l (group_lines images (config_of Ownership log.header) es))
       (all ∙ ap exchanges same)
 
   abbrev lines_over : List Exchange → List ℕ
-  lines_over es = group_lines images (config_of log.header) es
+  lines_over es = group_lines images (config_of Ownership log.header) es
 
   -- the first ones, as far as the run came
   pub until_lines : (count : ℕ) → count ≡ p.answered
       → TracesBy (trace_lines k.config k.state) (traced before l) (traced told l')
       → l' ≡ grown l (first_log_lines count images log)
   until_lines count at h =
-      lines_grew k images (config_of log.header) opened before told l l' fresh h
+      lines_grew k images (config_of Ownership log.header) opened before told l l' fresh h
       ∙ ap (λ (es : List Exchange). grown l (lines_over es)) told_first
       ∙ ap (λ (n : ℕ). grown l (first_log_lines n images log)) (sym at)
 
@@ -87,10 +88,10 @@ module _ (k : Held) (before : List Exchange) (fresh : before ≡ []) (p : Replay
       → TracedAhead images log l l' t t'
   ahead_lines t t' counted h = record {
     answered = p.answered;
-    counted = subst (λ (es : List Exchange). GrewBy t t' (group_work images (config_of log.header)
+    counted = subst (λ (es : List Exchange). GrewBy t t' (group_work images (config_of Ownership log.header)
         (map answer_of es))) told_first
-        (counted_since k before told None None None None fresh images (config_of log.header) opened
+        (counted_since k before told None None None None fresh images (config_of Ownership log.header) opened
         t t' counted);
     front = subst (λ (es : List Exchange). GrewByFront l l' (lines_over es)) told_first
-        (lines_front k images (config_of log.header) opened before told l l' fresh h);
+        (lines_front k images (config_of Ownership log.header) opened before told l l' fresh h);
   }

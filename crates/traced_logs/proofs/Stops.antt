@@ -5,6 +5,7 @@ use Rattle.std.proofs.Common.{Err, Result, arith}
 use Rattle.std.specs.Prelude.{IfSome, IsErrOf}
 use Rattle.dos_world.specs.declared.Ending.{Ending}
 use Rattle.dos_world.specs.declared.Misfit.{Misfit}
+use Rattle.dos_world.specs.declared.Scheme.TheVariants.{Ownership}
 use Rattle.dos_world.specs.declared.Question.{Question}
 use Rattle.dos_io.specs.Borders.{BorderState}
 use Rattle.dos_io.specs.declared.exchange.Exchange.{Exchange}
@@ -47,7 +48,7 @@ module _ (k k' : Held) (s p : ReplayState) (log : Log) (fresh : (replayer_state 
   abbrev Runs : Result Ending RunStop → Type 0
   Runs ran = RunsGroup k.config ran k.state (quiet_border s) k'.state (quiet_border p) has t t'
 
-  module _ (images : List Image) (opened : IsOpenedWith k images (config_of log.header)) where
+  module _ (images : List Image) (opened : IsOpenedWith k images (config_of Ownership log.header)) where
     pub traced_whole : (ending : Ending) → FitsLog log → Runs (Ok ending)
         → TracesBy (trace_lines k.config k.state) (traced (replayer_state s).told l)
         (traced (replayer_state p).told l')
@@ -55,7 +56,7 @@ module _ (k k' : Held) (s p : ReplayState) (log : Log) (fresh : (replayer_state 
     traced_whole ending fits run lines =
         let ended = is_told ending _ (replayer_state p).told run.told_end in
         let seen = replayed k (replayer_state s).told p None None None None fresh log same
-        first images opened k' ending t t' run.runs.0 run.runs.1 run.runs.2 fits ended in
+        first Ownership images opened k' ending t t' run.runs.0 run.runs.1 run.runs.2 fits ended in
         record {
           seen = seen.0;
           replayed = seen.1;
@@ -92,7 +93,7 @@ module _ (k k' : Held) (s p : ReplayState) (log : Log) (fresh : (replayer_state 
         subst (λ (x : TraceStop). Traces k.config (Err x) k.state k'.state
         (traced (replayer_state s).told l) (traced (replayer_state p).told l')) is lines in
         let until = replayed_until k (replayer_state s).told p None None None None fresh log same
-        first images opened (stops.Misfit found) found s refl run.asks run.causes.shim kept t t'
+        first Ownership images opened (stops.Misfit found) found s refl run.asks run.causes.shim kept t t'
         run.grew in
         record {
           output = until.0;

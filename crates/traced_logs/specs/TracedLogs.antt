@@ -1,8 +1,9 @@
--- What a traced replay leaves. This project's own rules.
+-- What a traced replay in the ownership scheme leaves. This project's own rules.
 use Rattle.std.specs.Prelude.{◌≡◌, ⊤, ℕ, List, Option, map, take}
 use Rattle.dos_world.specs.declared.Config.{Config}
 use Rattle.dos_world.specs.declared.Ending.{Ending}
 use Rattle.dos_world.specs.declared.Misfit.{Misfit}
+use Rattle.dos_world.specs.declared.Scheme.TheVariants.{Ownership}
 use Rattle.dos_io.specs.Exchanges.{answer_of}
 use Rattle.dos_io.specs.Outside.{grown, GrewByFront}
 use Rattle.dos_io.specs.declared.exchange.Exchange.{Exchange}
@@ -27,19 +28,19 @@ group_lines images config told =
 
 -- over those of a log
 abbrev pub log_lines : List Image → Log → List ℕ
-log_lines images log = group_lines images (config_of log.header) (exchanges log)
+log_lines images log = group_lines images (config_of Ownership log.header) (exchanges log)
 
 -- over so many first ones of a log
 abbrev pub first_log_lines : (count : ℕ) → List Image → Log → List ℕ
 first_log_lines count images log =
-    group_lines images (config_of log.header) (take count (exchanges log))
+    group_lines images (config_of Ownership log.header) (take count (exchanges log))
 
 -- The run of these images fits the log: what is seen of it, what the kernel reports, and what the
 -- tally grew by; the lines grew by those of the log.
 pub record TracedWhole (images : List Image) (log : Log) (kernel : Held) (ending : Ending)
     (lines lines_after : Option (List ℕ)) (tally tally_after : ℕ) : Type 0 where
   pub seen : Seen
-  pub replayed : Replayed images log seen
+  pub replayed : Replayed Ownership images log seen
   pub shows : ReportsRun kernel ending seen
   pub counted : GrewBy tally tally_after seen.work
   pub lines_are : lines_after ≡ grown lines (log_lines images log)
@@ -51,7 +52,7 @@ pub record TracedUntil (images : List Image) (log : Log) (found : Misfit)
   pub output : List ℕ
   pub error : List ℕ
   pub work : ℕ
-  pub replayed : ReplayedUntil images log found output error work
+  pub replayed : ReplayedUntil Ownership images log found output error work
   pub counted : GrewBy tally tally_after work
   pub lines_are : lines_after ≡ grown lines (first_log_lines found.entry images log)
 
@@ -60,7 +61,7 @@ pub record TracedUntil (images : List Image) (log : Log) (found : Misfit)
 pub record TracedAhead (images : List Image) (log : Log) (lines lines_after : Option (List ℕ))
     (tally tally_after : ℕ) : Type 0 where
   pub answered : ℕ
-  pub counted : GrewBy tally tally_after (first_work answered images log)
+  pub counted : GrewBy tally tally_after (first_work Ownership answered images log)
   pub front : GrewByFront lines lines_after (first_log_lines answered images log)
 
 -- It stops at a misfit, where a line fails, or for want of memory before the first round.

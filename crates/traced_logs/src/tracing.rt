@@ -1,6 +1,7 @@
 // A run that is replayed and traced.
 ghost use Rattle.std.specs.Prelude.{◌≡◌, ◌≢◌, ◌≤◌, List, Err, false, IfOk, IfErr, IsErrOf};
 ghost use Rattle.dos_world.specs.declared.Misfit.{Misfit};
+ghost use Rattle.dos_world.specs.declared.Scheme.TheVariants.{Ownership};
 ghost use Rattle.elf_image.specs.Image.{Image};
 ghost use Rattle.kernel_calls.specs.declared.state.RunStop.TheVariants as stops;
 ghost use Rattle.logged_runs.specs.Opened.{IsOpenedWith};
@@ -19,8 +20,8 @@ use shim_log::Replayer;
 use std::alloc::Global;
 use worker_pool::Workers;
 
-/// Runs a group that was opened by the answers of a log, and puts after each round a line for each
-/// frame whose owner has changed in it. The guests' bytes are dropped.
+/// Runs a group that was opened in the ownership scheme by the answers of a log, and puts after each
+/// round a line for each frame whose owner has changed in it. The guests' bytes are dropped.
 ///
 /// It stops where the log has an exchange of another question than the run asks, by that misfit,
 /// where a line fails, or for want of memory before the first round, and by nothing else.
@@ -33,15 +34,15 @@ pub fn trace_log<T: Sink, W: Workers>(
 ) -> Result<Ending, TraceStop>
     requires { kernel.old.failed ≡ false }
     ensures ran { IfOk result (λ ending. (images : List Image)
-        → IsOpenedWith kernel.old images (config_of log.header)
+        → IsOpenedWith kernel.old images (config_of Ownership log.header)
         → TracedWhole images log kernel.new ending (T.told lines.old) (T.told lines.new)
         (W.tally workers.old) (W.tally workers.new)) }
     ensures misfit { (found : Misfit) → IsErrOf result (traces.Run (stops.Misfit found))
-        → (images : List Image) → IsOpenedWith kernel.old images (config_of log.header)
+        → (images : List Image) → IsOpenedWith kernel.old images (config_of Ownership log.header)
         → TracedUntil images log found (T.told lines.old) (T.told lines.new)
         (W.tally workers.old) (W.tally workers.new) }
     ensures cut { IsErrOf result traces.LineFault → (images : List Image)
-        → IsOpenedWith kernel.old images (config_of log.header)
+        → IsOpenedWith kernel.old images (config_of Ownership log.header)
         → TracedAhead images log (T.told lines.old) (T.told lines.new)
         (W.tally workers.old) (W.tally workers.new) }
     ensures memory { IsErrOf result traces.Memory → T.told lines.new ≡ T.told lines.old }

@@ -1,6 +1,7 @@
 use Rattle.std.proofs.Common.{◌≡◌, ◌≤◌, ℕ, subst, sym}
 use Rattle.debug_connection.specs.Keeping.{texts_of}
 use Rattle.dos_world.specs.declared.Config.{Config}
+use Rattle.dos_world.specs.declared.Scheme.TheVariants.{Ownership}
 use Rattle.log_text.specs.LogText.{Log}
 use Rattle.logged_runs.specs.Replaying.{config_of}
 use Rattle.logged_runs.specs.Recording.{host_seen}
@@ -10,7 +11,7 @@ use Rattle.debugger.proofs.Debugged.{stopped_so, was_debugged}
 use Rattle.debugger.proofs.serving.debug_group.Goals as goal
 
 -- what was given has as many frames as the log says
-room_by : (log : Log) (config : Config) (n : ℕ) → config ≡ config_of log.header → n ≤ config.frames
+room_by : (log : Log) (config : Config) (n : ℕ) → config ≡ config_of Ownership log.header → n ≤ config.frames
     → n ≤ log.header.frames
 room_by log config n is room = subst (λ (k : Config). n ≤ k.frames) is room
 

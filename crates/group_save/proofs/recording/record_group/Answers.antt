@@ -18,36 +18,36 @@ record_frames-requires-clause-home c = subst (λ f. All IsSome f.pages) (sym c.f
 pub returns-in_ok-frames-in-Ok-clause-is : goal.returns-in_ok-frames-in-Ok-clause-is
 returns-in_ok-frames-in-Ok-clause-is c =
     recorded_is c.args.digest c.args.used c.args.config c.args.state c.in-Ok.group c.in-Ok.ensures
-    c.requires.sound c.requires.config c.requires.frames c.requires.rounds
+    c.requires.sound c.requires.config c.requires.scheme c.requires.frames c.requires.rounds
     (c.in_ok-frames-in-Ok.ensures ∙ ap (λ f. framed f.pages f.owners) c.frames_of.ensures)
     c.with_frames.ensures
 
 pub returns-in_ok-frames-in-Ok-clause-fits : goal.returns-in_ok-frames-in-Ok-clause-fits
 returns-in_ok-frames-in-Ok-clause-fits c =
     recorded_fits c.args.digest c.args.used c.args.config c.args.state c.in-Ok.group
-    c.in-Ok.ensures c.requires.sound c.requires.config c.requires.frames c.requires.rounds
+    c.in-Ok.ensures c.requires.sound c.requires.config c.requires.scheme c.requires.frames c.requires.rounds
     c.with_frames.result
     (recorded_is c.args.digest c.args.used c.args.config c.args.state c.in-Ok.group c.in-Ok.ensures
-    c.requires.sound c.requires.config c.requires.frames c.requires.rounds
+    c.requires.sound c.requires.config c.requires.scheme c.requires.frames c.requires.rounds
     (c.in_ok-frames-in-Ok.ensures ∙ ap (λ f. framed f.pages f.owners) c.frames_of.ensures)
     c.with_frames.ensures)
 
 pub returns-in_ok-frames-in-Ok-clause-world : goal.returns-in_ok-frames-in-Ok-clause-world
 returns-in_ok-frames-in-Ok-clause-world c =
     recorded_world c.args.digest c.args.used c.args.config c.args.state c.in-Ok.group
-    c.in-Ok.ensures c.requires.sound c.requires.config c.requires.frames c.requires.rounds
+    c.in-Ok.ensures c.requires.sound c.requires.config c.requires.scheme c.requires.frames c.requires.rounds
     c.with_frames.result
     (recorded_is c.args.digest c.args.used c.args.config c.args.state c.in-Ok.group c.in-Ok.ensures
-    c.requires.sound c.requires.config c.requires.frames c.requires.rounds
+    c.requires.sound c.requires.config c.requires.scheme c.requires.frames c.requires.rounds
     (c.in_ok-frames-in-Ok.ensures ∙ ap (λ f. framed f.pages f.owners) c.frames_of.ensures)
     c.with_frames.ensures)
 
 pub returns-in_ok-frames-in-Ok-clause-lawful : goal.returns-in_ok-frames-in-Ok-clause-lawful
 returns-in_ok-frames-in-Ok-clause-lawful c =
     recorded_lawful c.args.digest c.args.used c.args.config c.args.state c.in-Ok.group
-    c.in-Ok.ensures c.requires.sound c.requires.config c.requires.frames c.requires.rounds
+    c.in-Ok.ensures c.requires.sound c.requires.config c.requires.scheme c.requires.frames c.requires.rounds
     c.with_frames.result
     (recorded_is c.args.digest c.args.used c.args.config c.args.state c.in-Ok.group c.in-Ok.ensures
-    c.requires.sound c.requires.config c.requires.frames c.requires.rounds
+    c.requires.sound c.requires.config c.requires.scheme c.requires.frames c.requires.rounds
     (c.in_ok-frames-in-Ok.ensures ∙ ap (λ f. framed f.pages f.owners) c.frames_of.ensures)
     c.with_frames.ensures)

@@ -7,8 +7,8 @@ use Rattle.group_walk.proofs.Walking.{walked_over}
 use Rattle.group_walk.proofs.laws.walks_are_the_machine.Goals as goal
 
 pub returns : goal.returns
-returns c = λ w config answers.
-    let ends = c.runs_are_their_moves.ensures w config answers in
+returns c = λ w config answers owned.
+    let ends = c.runs_are_their_moves.ensures w config answers owned in
     record {
       moves = ends.moves;
       work = ends.work;

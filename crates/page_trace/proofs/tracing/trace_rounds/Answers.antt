@@ -46,7 +46,7 @@ pub loop-round-init : goal.loop-round-init
 loop-round-init g c = record {
   some = some_none c.args.kernel.now.config c.args.kernel.now.state
       (g.B.Border.state c.args.border.now) (g.W.Workers.tally c.args.workers.now);
-  traced = traced_none c.args.kernel.now.config.quantum c.args.kernel.now.state _;
+  traced = traced_none c.args.kernel.now.config c.args.kernel.now.state _;
   running = c.requires.running;
   round = sym (with_nothing _);
   sound = c.rounds_left-round-end.ensures.sound;

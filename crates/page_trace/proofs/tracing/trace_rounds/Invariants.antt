@@ -11,7 +11,7 @@ invariant-loop-round g l = record {
   some : PlaysSome l.fn.kernel.config (Ok None) l.fn.kernel.state (g.B.Border.state l.fn.border)
       l.kernel.state (g.B.Border.state l.border) (g.W.Workers.tally l.fn.workers)
       (g.W.Workers.tally l.workers);
-  traced : TracedSome l.fn.kernel.config.quantum l.fn.kernel.state
+  traced : TracedSome l.fn.kernel.config l.fn.kernel.state
       (traced_at (g.B.Border.state l.fn.border) (g.T.Sink.told l.fn.lines)) l.kernel.state
       (traced_at (g.B.Border.state l.border) (g.T.Sink.told l.lines));
   running : l.kernel.failed ≡ false;

@@ -10,35 +10,36 @@ use Rattle.group_walk.proofs.walker.Walker.make.Goals as goal
 
 pub numbers_behind-begun-requires-clause-begun : goal.numbers_behind-begun-requires-clause-begun
 numbers_behind-begun-requires-clause-begun g c =
-    begun_within c.self.inside c.args.self.now c.self.view_is c.self.invariant.2 c.requires.running
+    begun_within c.self.inside c.args.self.now c.self.view_is c.self.invariant.3 c.requires.running
     c.requires.next
 
 pub reach_next-requires-clause-sound : goal.reach_next-requires-clause-sound
 reach_next-requires-clause-sound g c =
-    sound_here c.self.inside c.args.self.now c.self.view_is c.self.invariant.2 c.requires.running
+    sound_here c.self.inside c.args.self.now c.self.view_is c.self.invariant.3 c.requires.running
     c.requires.next
 
 pub reach_next-requires-clause-there : goal.reach_next-requires-clause-there
 reach_next-requires-clause-there g c =
-    there_here c.self.inside c.args.self.now c.self.view_is c.self.invariant.2 c.requires.running
+    there_here c.self.inside c.args.self.now c.self.view_is c.self.invariant.3 c.requires.running
     c.requires.next
 
 pub reach_next-requires-clause-goes_on : goal.reach_next-requires-clause-goes_on
 reach_next-requires-clause-goes_on g c =
-    moves_here c.self.inside c.args.self.now c.self.view_is c.self.invariant.2 c.requires.running
+    moves_here c.self.inside c.args.self.now c.self.view_is c.self.invariant.3 c.requires.running
     c.requires.next
 
 pub reach_next-requires-clause-limit : goal.reach_next-requires-clause-limit
 reach_next-requires-clause-limit g c =
-    round_within c.self.inside c.args.self.now c.self.view_is c.self.invariant.2 c.requires.running
+    round_within c.self.inside c.args.self.now c.self.view_is c.self.invariant.3 c.requires.running
     c.requires.next
 
 pub invariant_of-self : goal.invariant_of-self
 invariant_of-self g c = (
   c.reach_next.ensures.room,
   c.self.invariant.1,
+  c.self.invariant.2,
   λ _.
-      walking_on c.self.inside c.args.self.now c.self.view_is c.self.invariant.2
+      walking_on c.self.inside c.args.self.now c.self.view_is c.self.invariant.3
       c.requires.running c.requires.next c.reach_next.new.state c.numbers_behind-begun.result
       c.numbers_behind-begun.ensures
       (place_at c.in-Ok.phase c.reach_next.new.starters.items c.in-Ok.index) c.in-Ok.ensures.comes,
@@ -46,7 +47,7 @@ invariant_of-self g c = (
 
 pub returns-in-Ok-clause-plays : goal.returns-in-Ok-clause-plays
 returns-in-Ok-clause-plays g c = record {
-  goes = move_goes c.self.inside c.args.self.now c.self.view_is c.self.invariant.2
+  goes = move_goes c.self.inside c.args.self.now c.self.view_is c.self.invariant.3
       c.requires.running c.requires.next c.reach_next.new.state c.numbers_behind-begun.result
       c.numbers_behind-begun.ensures _ _ (c.in-Ok.phase, c.in-Ok.index)
       c.reach_next.new.starters.items c.in-Ok.ensures.plays;
@@ -59,7 +60,7 @@ returns-in-Ok-clause-walked g c =
     (gone_on c.self.inside c.reach_next.new.state
     (place_at c.in-Ok.phase c.reach_next.new.starters.items c.in-Ok.index)
     c.numbers_behind-begun.result) _ _ (ap (λ (w : Walk). w.config) c.self.view_is)
-    (move_goes c.self.inside c.args.self.now c.self.view_is c.self.invariant.2
+    (move_goes c.self.inside c.args.self.now c.self.view_is c.self.invariant.3
     c.requires.running c.requires.next c.reach_next.new.state c.numbers_behind-begun.result
     c.numbers_behind-begun.ensures _ _ (c.in-Ok.phase, c.in-Ok.index)
     c.reach_next.new.starters.items c.in-Ok.ensures.plays)
@@ -71,7 +72,7 @@ returns-in-Ok-clause-told g c =
 pub returns-in-Err-clause-plays : goal.returns-in-Err-clause-plays
 returns-in-Err-clause-plays g c = record {
   goes = tt;
-  stops = move_stops c.self.inside c.args.self.now c.self.view_is c.self.invariant.2
+  stops = move_stops c.self.inside c.args.self.now c.self.view_is c.self.invariant.3
       c.requires.running c.requires.next c.reach_next.new.state _ _ c.in-Err.stop
       c.reach_next.new.starters.items c.in-Err.ensures.plays;
 }
