@@ -1,7 +1,9 @@
 -- What is known of packs that went out, and of those that have run.
-use Rattle.std.proofs.Common.{ℕ, ◌-◌, ◌≤◌, ◌≡◌, refl, sym, ap, ◌∙◌, subst, List, false}
+use Rattle.std.proofs.Common.{ℕ, ◌-◌, ◌≤◌, ◌≡◌, refl, sym, ap, ap₂, ◌∙◌, subst, List, [], false}
 use Rattle.dos_world.specs.declared.Config.{Config}
+use Rattle.dos_world.specs.declared.Scheme.TheVariants.{Ownership}
 use Rattle.page_store.specs.Store.{Store, IsAway}
+use Rattle.quantum_run.specs.Packs.{empty_pack}
 use Rattle.quantum_run.specs.Shows.{Pack, CanRun}
 use Rattle.proc_table.specs.Tables.{Tables, IsLiveThread}
 use Rattle.flat_machine.specs.Round.{all_alone, parallel, budgets as world_budgets}
@@ -10,13 +12,13 @@ use Rattle.kernel_calls.specs.declared.state.State.{State}
 use Rattle.worker_pool.specs.Ran.{AllRan, AllCanRun, budgets_left}
 use Rattle.group_rounds.specs.Away.{Away, WentOut, IsHandedOut, HaveRun, IsParallelOf}
 use Rattle.group_rounds.specs.Handing.{In, all_pages, HaveNoFrameTwice, AreOthers, AreSet, PutBack}
-use Rattle.group_rounds.specs.Handing.{view_of}
+use Rattle.group_rounds.specs.Handing.{PacksFor, emptied_pack, packs_for, view_of}
 use Rattle.group_rounds.specs.Kernels.{Held, IsBetweenRounds}
 use Rattle.group_rounds.specs.Parts.{work_between}
 use Rattle.group_rounds.specs.Phases.{ready_in}
 use Rattle.group_rounds.proofs.PacksShow.{can-run}
 use Rattle.group_rounds.proofs.PacksBack.{others, pages-apart, pages-away, threads-live}
-use Rattle.group_rounds.proofs.PacksBack.{rooms, all-runs, sound-again, count-again}
+use Rattle.group_rounds.proofs.PacksBack.{spare-again, all-runs, sound-again, count-again}
 use Rattle.group_rounds.proofs.PacksWork.{work-is}
 use Rattle.group_rounds.proofs.RoundLaws.{parallel_is}
 use Rattle.group_rounds.proofs.HandingLaws.{beside}
@@ -29,6 +31,13 @@ away state config starters packs = record {
   starters = starters;
   packs = packs;
 }
+
+-- packs for so many frames and the ownership scheme are for a configuration with them
+pub packs-for : (config : Config) (frames : ℕ) → frames ≡ config.frames
+    → config.scheme ≡ Ownership
+    → ◌≡◌ {A = PacksFor} (record { frames = frames; scheme = Ownership }) (packs_for config)
+packs-for config frames same scheme =
+    ap₂ (λ n s. record { frames = n; scheme = s }) same (sym scheme)
 
 module _ (before : State) (a : Away) (out : WentOut before a) where
   abbrev new : Store
@@ -61,10 +70,12 @@ module _ (before : State) (a : Away) (out : WentOut before a) where
     are-others = others before out.between.sound a.starters out.live out.apart new a.packs qs
         out.hands ran-before
 
-    pub have-room : (q : Pack) → In qs q → q.room ≡ a.config.frames
-    have-room q k =
-        rooms before out.between.sound a.starters out.live out.apart new a.packs qs out.hands
-        ran-before q k ∙ sym out.between.sound.counted.home.owners ∙ out.between.frames
+    pub are-spare : (q : Pack) → In qs q
+        → emptied_pack (record q { pages = [] }) ≡ empty_pack a.config.frames
+    are-spare q k =
+        spare-again before out.between.sound a.starters out.live out.apart new a.packs qs out.hands
+        ran-before q k
+        ∙ ap empty_pack (sym out.between.sound.counted.home.owners ∙ out.between.frames)
 
     module _ (s2 : State) (put : PutBack (all_pages qs) new s2.frames)
         (set : AreSet qs a.state.table s2.table) (round : s2.round ≡ a.state.round)

@@ -5,15 +5,18 @@ use Rattle.std.specs.Prelude.{⊤}
 use Rattle.dos_world.specs.World.{World}
 use Rattle.dos_world.specs.Play.{Play, Answer, done, ask, ◌>>=◌, Outcome, gives, asks, over}
 use Rattle.dos_world.specs.Services.{Served as FlatServed, went, waits, yields, gone}
+use Rattle.dos_world.specs.declared.Scheme.{Scheme}
 use Rattle.dos_io.specs.Outside.{IsFront}
 use Rattle.dos_io.proofs.OutsideLaws.{front-more}
 use Rattle.dos_laws.specs.Plays.{world_served, world_ended}
+use Rattle.flat_machine.specs.Buffered.{buffered}
 use Rattle.flat_machine.specs.Rest.{turns, after_service, serial_of}
 use Rattle.flat_machine.specs.Round.{RoundEnd as FlatEnd, round_of}
 use Rattle.flat_machine.specs.Round.{went as went_on, finished, stalled}
-use Rattle.round_core.specs.Invariants.{Keeps, LeavesEnd}
+use Rattle.round_core.specs.Invariants.{Keeps, LeavesEnd, PhaseKeeps}
 use Rattle.round_core.specs.Protocol.{Protocol, Allows}
 use Rattle.round_core.proofs.Allowed.{Comes, allows_less, over_comes}
+use Rattle.round_core.proofs.Buffers.{buffered-form}
 use Rattle.round_core.proofs.Keeps.{turns_keep, serial_keeps, round_keeps}
 use Rattle.round_core.proofs.SameRun.{sent_kept}
 use Rattle.round_core.proofs.Turning.{goes_on}
@@ -42,6 +45,10 @@ module _ (o e : List ℕ) where
         more_error = λ q n output error bytes h. (h.0, front-more e error bytes h.1);
       })
       sending (λ w h question. h)
+
+  -- a parallel phase sends nothing
+  pub fronts_buffered : PhaseKeeps HasSent buffered
+  fronts_buffered ts w h = subst (HasSent ts) (sym (buffered-form w)) h
 
   -- what a play comes to that sends them
   pub fronts_over : {A : Type 0} (world : A → World) (given : List Answer) (play : Play A)
@@ -84,13 +91,13 @@ module _ (o e : List ℕ) where
       fronts_over (λ w. w) more (serial_of w ts) (serial_keeps sending HasSent fronts_kept w ts h)
 
   -- a round
-  pub fronts_round : (w : World) (more : List Answer) → HasSent [] w
-      → AreFrontsOf world_ended o e (over more (round_of w))
-  fronts_round w more h =
-      fronts_over world_ended more (round_of w)
+  pub fronts_round : (scheme : Scheme) (w : World) (more : List Answer) → HasSent [] w
+      → AreFrontsOf world_ended o e (over more (round_of scheme w))
+  fronts_round scheme w more h =
+      fronts_over world_ended more (round_of scheme w)
       (allows_less sending (LeavesEnd (HasSent [])) (λ end. HasSent [] (world_ended end))
-      (round_of w) by_end
-      (round_keeps sending HasSent fronts_kept w h h))
+      (round_of scheme w) by_end
+      (round_keeps sending HasSent fronts_kept fronts_buffered scheme w h h))
     where
       by_end : (end : FlatEnd) → LeavesEnd (HasSent []) end → HasSent [] (world_ended end)
       by_end (went_on w work) h = subst (HasSent []) (sym h.1) h.2

@@ -10,10 +10,15 @@ use Rattle.dos_world.proofs.Numbers.{changed_other, length-changed}
 use Rattle.flat_machine.specs.Laws.{kept}
 use Rattle.page_store.specs.Store.{Store, whole, IsAway, with_home}
 use Rattle.flat_machine.specs.Laws.{without_progress}
-use Rattle.quantum_run.specs.Packs.{with_own_page}
+use Rattle.dos_world.specs.Registers.{Registers}
+use Rattle.dos_world.specs.declared.Scheme.{Scheme}
+use Rattle.dos_world.specs.declared.Scheme.TheVariants.{Buffered, Ownership}
+use Rattle.written_words.specs.declared.Written.{Written}
+use Rattle.quantum_run.specs.Packs.{with_own_page, with_thread_of, without_words}
 use Rattle.quantum_run.specs.Shows.{Pack}
 use Rattle.proc_table.specs.Tables.{Tables, thread_in, thread_by, ran, IsLiveThread}
 use Rattle.group_rounds.specs.Handing.{In, all_pages, HaveNoFrameTwice, AreOthers, PutBack, AreSet}
+use Rattle.group_rounds.specs.Handing.{AreSpare, blank_pack, emptied_pack}
 use Rattle.group_rounds.proofs.ThreadRunLaws.{thread_in-by, some_of}
 
 -- ---- lists
@@ -297,6 +302,51 @@ set-lives ps old new s a live =
     by None None e h = h
     by None (Some x) e h = cc
     by (Some x) q e h = refl
+
+-- ---- spare packs
+
+-- filled, a pack is as what it is when emptied would be
+pub filled-alike : (p : Pack) (t process : ℕ) (r : Registers) (budget : ℕ)
+    → with_thread_of p t process r budget ≡ with_thread_of (emptied_pack p) t process r budget
+filled-alike p t process r budget =
+    ap (λ ws. record p {
+      thread = t;
+      process = process;
+      registers = r;
+      budget = budget;
+      words = ws;
+    }) (sym (twice p.words))
+  where
+    twice : (ws : Option (List Written)) → without_words (without_words ws) ≡ without_words ws
+    twice None = refl
+    twice (Some ws) = refl
+
+pub blank-empty : (scheme : Scheme) (frames : ℕ)
+    → emptied_pack (blank_pack scheme frames) ≡ blank_pack scheme frames
+blank-empty Ownership frames = refl
+blank-empty Buffered frames = refl
+
+-- one more
+pub spare-more : (first : Pack) (xs ys : List Pack) (a : Pack) → ys ≡ xs ++ a ∷ []
+    → AreSpare first xs → emptied_pack a ≡ first → AreSpare first ys
+spare-more first xs ys a is all one p h =
+    by (in-either xs (a ∷ []) p (subst (λ (ps : List Pack). In ps p) is h))
+  where
+    by : In xs p ⊎ In (a ∷ []) p → emptied_pack p ≡ first
+    by (inl here) = all p here
+    by (inr (inl e)) = ap emptied_pack (sym e) ∙ one
+    by (inr (inr here)) = absurd here
+
+-- and one less
+pub spare-last : (first : Pack) (xs ys : List Pack) (a : Pack) → ys ≡ xs ++ a ∷ []
+    → AreSpare first ys → emptied_pack a ≡ first
+spare-last first xs ys a is all =
+    all a (subst (λ (ps : List Pack). In ps a) (sym is) (in-right xs (a ∷ []) a (inl refl)))
+
+pub spare-less : (first : Pack) (xs ys : List Pack) (a : Pack) → ys ≡ xs ++ a ∷ []
+    → AreSpare first ys → AreSpare first xs
+spare-less first xs ys a is all p h =
+    all p (subst (λ (ps : List Pack). In ps p) (sym is) (in-left xs (a ∷ []) p h))
 
 -- ---- packs, the last one first
 

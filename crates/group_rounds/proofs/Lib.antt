@@ -17,6 +17,7 @@ pub mod PacksBack
 pub mod SignalLaws
 pub mod RipenLaws
 pub mod PacksWork
+pub mod BuffersRan
 pub mod InPlaceLaws
 pub mod AwayLaws
 pub mod ServesLaws

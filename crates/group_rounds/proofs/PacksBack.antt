@@ -1,6 +1,6 @@
 -- What the packs bring back makes the world of all parts.
 use Rattle.std.proofs.Common.{ℕ, zero, suc, ◌-◌, ◌*◌, ◌/◌, ◌%◌, ◌<◌, ◌≤◌, ◌≡◌, ◌≢◌, ◌⊎◌, inl, inr}
-use Rattle.std.proofs.Common.{refl, sym, ap, ◌∙◌, subst, List, [], ◌∷◌, ◌++◌}
+use Rattle.std.proofs.Common.{refl, sym, ap, ap₂, ◌∙◌, subst, List, [], ◌∷◌, ◌++◌, is_some, false}
 use Rattle.std.proofs.Common.{length, map, get_or, Option, Some, None, IsSome, All, option_map}
 use Rattle.std.proofs.Common.{arith}
 use Rattle.std.specs.Prelude.{slice_get}
@@ -12,8 +12,9 @@ use Rattle.dos_laws.specs.Standing.{LawfulWith}
 use Rattle.flat_machine.specs.Laws.{kept}
 use Rattle.page_store.specs.Store.{Store, joined, owner_at, IsAway}
 use Rattle.page_store.proofs.Joined.{home-at, length-joined, page_of-joined, joined_at}
-use Rattle.flat_machine.specs.Alone.{alone}
-use Rattle.quantum_run.specs.Shows.{Pack, Shows}
+use Rattle.quantum_run.specs.Packs.{empty_pack, without_words}
+use Rattle.quantum_run.specs.Shows.{Pack, FinishedOwning, has_words}
+use Rattle.written_words.specs.declared.Written.{Written}
 use Rattle.flat_machine.specs.Round.{all_alone}
 use Rattle.round_core.proofs.Commute.{Among}
 use Rattle.round_core.proofs.Bringing.{DifferIn, decide-owner}
@@ -24,7 +25,7 @@ use Rattle.kernel_calls.specs.declared.state.State.{State}
 use Rattle.group_rounds.specs.Handing.{AreOnce, In, all_pages, HaveNoFrameTwice, AreOthers, IsFor}
 use Rattle.group_rounds.specs.Handing.{Handing}
 use Rattle.group_rounds.specs.Handing.{PutBack}
-use Rattle.group_rounds.specs.Handing.{AreSet, pack_of, view_of}
+use Rattle.group_rounds.specs.Handing.{AreSet, emptied_pack, pack_of, view_of}
 use Rattle.group_rounds.specs.Phases.{AreLive}
 use Rattle.worker_pool.specs.Ran.{AllRan, HasRun}
 use Rattle.group_rounds.proofs.HandingLaws.{beside, in-left, in-right, in-either}
@@ -33,7 +34,7 @@ use Rattle.kernel_objects.specs.Pipework.{Pipework}
 use Rattle.kernel_calls.proofs.Counted.{all_counted, counted_like}
 use Rattle.group_rounds.proofs.PacksRan.{among-of, among-at, apart-of, brought}
 use Rattle.group_rounds.proofs.PacksShow.{frames-at, frames-from, some-is, shows-it, below}
-use Rattle.group_rounds.proofs.PacksShow.{opened-is, lives, frame-low}
+use Rattle.group_rounds.proofs.PacksShow.{opened-is, lives, frame-low, no-words}
 
 -- ---- lists
 
@@ -159,7 +160,7 @@ Of-is a b q = cc
 module _ (s : State) (sound : IsSound s) (ts : List ℕ) (live : AreLive s.table.threads ts)
     (apart : AreOnce ts)
     (new : Store) (ps qs : List Pack)
-    (h : Handing ts (map (pack_of s.table (length s.frames.pages)) ts) s.frames new ps
+    (h : Handing ts (map (pack_of s.table (empty_pack (length s.frames.pages))) ts) s.frames new ps
     (length s.frames.pages)) (ran : AllRan (view_of new s.table) ps qs) where
   as-many : length qs ≡ length ts
   as-many = ran.level ∙ h.level
@@ -238,12 +239,24 @@ module _ (s : State) (sound : IsSound s) (ts : List ℕ) (live : AreLive s.table
       subst (IsLiveThread s.table.threads) (sym n.is)
       (lives s sound ts live new ps h i.0 n.thread n.starter)
 
-  pub rooms : (q : Pack) → In qs q → q.room ≡ length s.frames.pages
-  rooms q k =
+  -- and emptied it is what it was before it was filled
+  pub spare-again : (q : Pack) → In qs q
+      → emptied_pack (record q { pages = [] }) ≡ empty_pack (length s.frames.pages)
+  spare-again q k =
       let i = in-at qs q k in
       let n = known i.0 q i.1 in
+      let room : q.room ≡ length s.frames.pages =
       n.run.room ∙ ap (λ (x : Pack). x.room)
-      (opened-is s sound ts live new ps h i.0 n.thread n.pack n.starter n.here)
+      (opened-is s sound ts live new ps h i.0 n.thread n.pack n.starter n.here) in
+      let none : has_words q ≡ false =
+      n.run.finished.scheme
+      ∙ no-words s sound ts live new ps h i.0 n.thread n.pack n.starter n.here in
+      ap₂ (λ (room : ℕ) (ws : Option (List Written)).
+      record (empty_pack room) { words = without_words ws }) room (no-words-in q.words none)
+    where
+      no-words-in : (ws : Option (List Written)) → is_some ws ≡ false → ws ≡ None
+      no-words-in None e = refl
+      no-words-in (Some ws) e = cc
 
   module _ (s2 : State) (put : PutBack (all_pages qs) new s2.frames)
       (set : AreSet qs s.table s2.table) (round : s2.round ≡ s.round)
@@ -294,8 +307,9 @@ module _ (s : State) (sound : IsSound s) (ts : List ℕ) (live : AreLive s.table
               (opened-is s sound ts live new ps h i t p at here);
           thread = n.is ∙ thread;
           shown = shows-it s sound ts live new ps h i t p at here q o e;
-          finished = subst (λ (x : Pack). (w : World) → Shows x (view_of new s.table) w
-              → Shows a (view_of new s.table) (alone w x.thread)) same n.run.finished;
+          finished = subst (λ (x : Pack). FinishedOwning x (view_of new s.table) a) same
+              (n.run.finished.owning
+              (no-words s sound ts live new ps h i n.thread n.pack n.starter n.here));
         })
         (world-same q o e)
         (λ i t a at there.

@@ -11,7 +11,7 @@ use Rattle.dos_world.specs.declared.Owner.{Owner}
 use Rattle.dos_world.specs.declared.Owner.TheVariants.{Free, Shared, Of}
 use Rattle.flat_machine.specs.Laws.{kept}
 use Rattle.flat_machine.specs.Alone.{alone}
-use Rattle.quantum_run.specs.Shows.{Pack, View, Shows, Finished, thread_space}
+use Rattle.quantum_run.specs.Shows.{Pack, View, Shows, FinishedOwning, thread_space}
 use Rattle.flat_machine.proofs.Own.{alone-own}
 use Rattle.quantum_run.proofs.Packing.{page-same}
 use Rattle.flat_machine.specs.Round.{all_alone}
@@ -128,7 +128,7 @@ pub record Went (v : View) (w : World) (t : ℕ) (p q : Pack) : Type 0 where
   pub begun : p.thread ≡ t
   pub thread : q.thread ≡ t
   pub shown : Shows p v w
-  pub finished : Finished p v q
+  pub finished : FinishedOwning p v q
 
 pub all-shown : (v : View) (ts : List ℕ) (ps qs : List Pack) (w : World) → Apart ts
     → length ps ≡ length ts → length qs ≡ length ts

@@ -1,7 +1,7 @@
 -- Packs that were handed out can run, and show the world that they came from.
 use Rattle.std.proofs.Common.{ℕ, zero, suc, ◌+◌, ◌*◌, ◌<◌, ◌≡◌, ◌≢◌, inr, refl, sym, ap, ◌∙◌, subst}
 use Rattle.std.proofs.Common.{List, [], ◌∷◌, ◌++◌, length, map, take, get_or, Option, Some, None}
-use Rattle.std.proofs.Common.{option_map, arith}
+use Rattle.std.proofs.Common.{option_map, arith, true, false}
 use Rattle.std.specs.Prelude.{slice_get, slice_index_or}
 use Rattle.std.proofs.lemmas.List.{length-map}
 use Rattle.dos_world.specs.Numbered.{numbered}
@@ -14,7 +14,7 @@ use Rattle.page_store.specs.Store.{Store, whole, shown, joined, owner_at}
 use Rattle.page_store.proofs.Joined.{home-at, length-joined, page_of-joined}
 use Rattle.page_store.proofs.Counts.{owned-within}
 use Rattle.quantum_run.specs.Packs.{bytes_of_frame, empty_pack, space_held, with_thread_of}
-use Rattle.quantum_run.specs.Shows.{Pack, Shows, CanRun, frames_of}
+use Rattle.quantum_run.specs.Shows.{Pack, Shows, CanRun, CanRunOwning, frames_of, has_words}
 use Rattle.proc_table.specs.Tables.{Tables, held_in, thread_in, IsLiveThread}
 use Rattle.kernel_calls.specs.StateWorld.{IsSound, sent, world_of}
 use Rattle.kernel_calls.specs.declared.state.State.{State}
@@ -32,13 +32,13 @@ place-of {A} (y ∷ xs) zero x d h = (omega arith, same h)
 place-of (y ∷ xs) (suc i) x d h = let r = place-of xs i x d h in let low = r.0 in
     (omega (arith, low), r.1)
 
-map-at : {A B : Type 0} (f : A → B) (xs : List A) (i : ℕ) (x : A) → slice_get xs i ≡ Some x
+pub map-at : {A B : Type 0} (f : A → B) (xs : List A) (i : ℕ) (x : A) → slice_get xs i ≡ Some x
     → slice_get (map f xs) i ≡ Some (f x)
 map-at f [] i x h = cc
 map-at {A} f (y ∷ xs) zero x h = ap (λ o. option_map f o) h
 map-at f (y ∷ xs) (suc i) x h = map-at f xs i x h
 
-space-shown : (ps : List Process) (p : ℕ) (h : Holdings) → held_in ps p ≡ Some h
+pub space-shown : (ps : List Process) (p : ℕ) (h : Holdings) → held_in ps p ≡ Some h
     → numbered (map space_held ps) p ≡ Some (Some h.space)
 space-shown ps zero h q = cc
 space-shown [] (suc i) h q = cc
@@ -77,7 +77,7 @@ shared-within owners frame h = owned-within owners frame (ap is_free h)
 
 module _ (s : State) (sound : IsSound s) (ts : List ℕ) (live : AreLive s.table.threads ts)
     (new : Store) (packs : List Pack)
-    (h : Handing ts (map (pack_of s.table (length s.frames.pages)) ts) s.frames new packs
+    (h : Handing ts (map (pack_of s.table (empty_pack (length s.frames.pages))) ts) s.frames new packs
     (length s.frames.pages)) where
   abbrev pub lives : (i t : ℕ) → slice_get ts i ≡ Some t → IsLiveThread s.table.threads t
   lives i t at = let r = place-of ts i t 0 at
@@ -116,11 +116,11 @@ module _ (s : State) (sound : IsSound s) (ts : List ℕ) (live : AreLive s.table
     found = seen s t sound (lives i t at)
 
     pub below : HasBelow t s.frames (length s.frames.pages)
-        (pack_of s.table (length s.frames.pages) t) p
+        (pack_of s.table (empty_pack (length s.frames.pages)) t) p
     below =
         let has = h.each i t p at here in
         subst (λ (b : Pack). HasBelow t s.frames (length s.frames.pages) b p)
-        (some-is (sym has.1 ∙ map-at (pack_of s.table (length s.frames.pages)) ts i t at))
+        (some-is (sym has.1 ∙ map-at (pack_of s.table (empty_pack (length s.frames.pages))) ts i t at))
         has.2
 
     abbrev opened : Pack
@@ -133,6 +133,7 @@ module _ (s : State) (sound : IsSound s) (ts : List ℕ) (live : AreLive s.table
       pages = p.pages;
       room =
           length s.frames.pages;
+      words = None;
     }
 
     pub opened-is : p ≡ opened
@@ -145,14 +146,18 @@ module _ (s : State) (sound : IsSound s) (ts : List ℕ) (live : AreLive s.table
               (empty_pack (length s.frames.pages)) t x.process x.registers x.budget
         ]) found.is)
 
+    -- it has no words
+    pub no-words : has_words p ≡ false
+    no-words = ap has_words opened-is
+
     not-free : (e : Entry) (page : ℕ) → look found.holdings.space page ≡ Some e
         → owner_at s.frames e.frame ≢ Free
     not-free e page has free = let taken =
         (mapped s t sound (lives i t at) found.holdings.space refl page e has).1 in let q =
         ap is_free free in grind (arith, taken, q)
 
-    pub can-run : CanRun p (view_of new s.table)
-    can-run = subst (λ (x : Pack). CanRun x (view_of new s.table)) (sym opened-is) (record {
+    owning : CanRunOwning opened (view_of new s.table)
+    owning = record {
       entries = found.holdings.space;
       space = space-shown s.table.processes found.thread.process found.holdings found.has;
       mapped = λ page e has. (
@@ -168,7 +173,17 @@ module _ (s : State) (sound : IsSound s) (ts : List ℕ) (live : AreLive s.table
           owner-new frame ∙ (below.owner j frame r.0 r.1).0;
       shared = λ frame all. (_, shared-page frame (sym (owner-new frame) ∙ all));
       level = sym (length-map new.pages (option_map whole) ∙ h.count);
-    })
+    }
+
+    pub can-run : CanRun p (view_of new s.table)
+    can-run = record {
+      owning = λ none. subst (λ (x : Pack). CanRunOwning x (view_of new s.table)) (sym opened-is)
+          owning;
+      writing = λ some. absurd (never (sym no-words ∙ some));
+    }
+      where
+        never : false ≡ true → ⊥
+        never q = cc
 
     pub shows-it : (q : ℕ) (o e : List ℕ) → Shows p (view_of new s.table) (sent o e (world_of q s))
     shows-it q o e = subst (λ (x : Pack). Shows x (view_of new s.table) (sent o e (world_of q s)))
@@ -208,7 +223,7 @@ map-more f [] x = refl
 map-more f (y ∷ xs) x = ap (λ ys. f y ∷ ys) (map-more f xs x)
 
 pub pack_of-begun : (table : Tables) (n : ℕ) (xs : List ℕ) (i : ℕ) (p : Pack)
-    → slice_get (map (pack_of table n) xs) i ≡ Some p → (p.pages ≡ []) × (p.room ≡ n)
+    → slice_get (map (pack_of table (empty_pack n)) xs) i ≡ Some p → (p.pages ≡ []) × (p.room ≡ n)
 pack_of-begun table n [] i p h = cc
 pack_of-begun table n (x ∷ xs) zero p h =
     subst (λ (q : Pack). (q.pages ≡ []) × (q.room ≡ n)) (some-is h) (by (thread_in table.threads x))

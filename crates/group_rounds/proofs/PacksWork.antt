@@ -7,6 +7,7 @@ use Rattle.dos_world.specs.World.{World, Registers, Thread, thread_at}
 use Rattle.flat_machine.specs.Laws.{kept}
 use Rattle.page_store.specs.Store.{Store}
 use Rattle.flat_machine.specs.Alone.{budget_of}
+use Rattle.quantum_run.specs.Packs.{empty_pack}
 use Rattle.quantum_run.specs.Shows.{Pack}
 use Rattle.worker_pool.specs.Ran.{AllRan, budgets_left}
 use Rattle.kernel_calls.specs.StateWorld.{IsSound, world_of}
@@ -31,7 +32,7 @@ budget-is w t b r h = by (thread_at w t) h
     by (Some x) q = sym (ap (λ (run : Registers × ℕ). run.1) (inner q))
 
 -- packs of these threads have their budgets in all
-budgets-are : (s : State) (ts : List ℕ) (ps : List Pack) → length ps ≡ length ts
+pub budgets-are : (s : State) (ts : List ℕ) (ps : List Pack) → length ps ≡ length ts
     → ((i t : ℕ) (p : Pack) → slice_get ts i ≡ Some t → slice_get ps i ≡ Some p
     → p.budget ≡ budget_in s t)
     → budgets_left ps ≡ sum_by (budget_in s) ts
@@ -46,7 +47,7 @@ budgets-are s (t ∷ ts) (p ∷ ps) level each =
 module _ (s : State) (sound : IsSound s) (ts : List ℕ) (live : AreLive s.table.threads ts)
     (apart : AreOnce ts)
     (new : Store) (ps qs : List Pack)
-    (h : Handing ts (map (pack_of s.table (length s.frames.pages)) ts) s.frames new ps
+    (h : Handing ts (map (pack_of s.table (empty_pack (length s.frames.pages))) ts) s.frames new ps
     (length s.frames.pages)) (ran : AllRan (view_of new s.table) ps qs) where
   -- as they go out
   out : budgets_left ps ≡ sum_by (budget_in s) ts

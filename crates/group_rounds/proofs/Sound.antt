@@ -10,17 +10,19 @@ use Rattle.dos_world.specs.Lawful.{Lawful}
 use Rattle.dos_world.specs.declared.Access.{Access}
 use Rattle.dos_world.specs.declared.Entry.{Entry}
 use Rattle.dos_world.specs.declared.Reason.{Reason}
+use Rattle.dos_world.specs.declared.Scheme.{Scheme}
 use Rattle.dos_laws.specs.Standing.{AreAwake, LawfulWith, fit_protocol}
 use Rattle.dos_laws.proofs.LawfulRounds.{at_rest}
 use Rattle.dos_laws.proofs.Stands.{at_changed}
+use Rattle.dos_laws.proofs.StandsBuffered.{stands-buffered}
 use Rattle.dos_laws.proofs.StandsKeeps.{stands_kept}
 use Rattle.flat_machine.specs.Step.{step}
 use Rattle.flat_machine.specs.Alone.{alone}
 use Rattle.flat_machine.specs.Laws.{after_steps}
-use Rattle.round_core.specs.Invariants.{IsInvariant}
+use Rattle.round_core.specs.Invariants.{IsInvariant, PhaseKeeps}
 use Rattle.flat_machine.specs.Rest.{granted_by, page_granted}
-use Rattle.flat_machine.specs.Round.{all_alone}
-use Rattle.round_core.proofs.Keeps.{kept_throughout}
+use Rattle.flat_machine.specs.Round.{all_alone, phase_of}
+use Rattle.round_core.proofs.Keeps.{kept_throughout, phase_keeps}
 use Rattle.proc_table.specs.Tables.{IsLiveThread as Lives}
 use Rattle.kernel_calls.specs.StateWorld.{HaveParts, IsCounted, IsReady, IsSound, sent, world_of}
 use Rattle.kernel_calls.specs.declared.state.State.{State}
@@ -132,13 +134,18 @@ pub alone_keeps : (ts us : List ℕ) (w : World) → LawfulWith ts w → LawfulW
 alone_keeps ts [] w k = k
 alone_keeps ts (u ∷ us) w k = alone_keeps ts us (alone w u) (kept.alone_kept ts w u k)
 
+-- the parallel phase of either scheme
+pub phase_stands : (scheme : Scheme) → PhaseKeeps LawfulWith (phase_of scheme)
+phase_stands = phase_keeps fit_protocol LawfulWith stands_kept stands-buffered
+
 -- so who has a part has it after the parallel phase
-pub parts_alone : (s s' : State) (us : List ℕ) → IsSound s
-    → ((q : ℕ) (o e : List ℕ) → all_alone (sent o e (world_of q s)) us ≡ sent o e (world_of q s'))
+pub parts_behind : (scheme : Scheme) (s s' : State) → IsSound s
+    → ((q : ℕ) (o e : List ℕ)
+    → phase_of scheme (sent o e (world_of q s)) ≡ sent o e (world_of q s'))
     → (ts : List ℕ) → HaveParts ts s → HaveParts ts s'
-parts_alone s s' us h runs ts =
+parts_behind scheme s s' h runs ts =
     parts_then s s' ts ts h
-    (λ k. subst (LawfulWith ts) (runs 16 [] []) (alone_keeps ts us (world_of 16 s) k))
+    (λ k. subst (LawfulWith ts) (runs 16 [] []) (phase_stands scheme ts (world_of 16 s) k))
 
 -- ---- a live thread
 

@@ -11,6 +11,7 @@ use Rattle.dos_world.specs.Play.{Answer, Outcome, Play, done, ask, asks, gives, 
 use Rattle.dos_world.specs.Play.{posts_of}
 use Rattle.dos_world.specs.declared.Post.{Post}
 use Rattle.dos_world.specs.declared.Question.TheVariants.{Signals as signals_question}
+use Rattle.dos_world.specs.declared.Scheme.{Scheme}
 use Rattle.dos_world.specs.declared.ThreadState.TheVariants.{Ready}
 use Rattle.dos_io.specs.Borders.{BorderState, Crosses, exchanged, exchanges_of}
 use Rattle.dos_io.specs.Exchanges.{answer_of}
@@ -23,7 +24,7 @@ use Rattle.kernel_calls.specs.declared.state.RunStop.{RunStop}
 use Rattle.kernel_calls.specs.declared.state.State.{State}
 use Rattle.flat_machine.specs.Rest.{serial_of}
 use Rattle.flat_machine.specs.Round.{RoundEnd as FlatEnd, went, finished, stalled, is_none_of}
-use Rattle.flat_machine.specs.Round.{begun, budgets, counted, parallel, phases, round_of}
+use Rattle.flat_machine.specs.Round.{begun, budgets, counted, phase_of, phases, round_of}
 use Rattle.flat_machine.specs.Round.{with_budgets}
 use Rattle.group_rounds.specs.Rounds.{answers_since, begun_work, phase_work}
 
@@ -76,10 +77,10 @@ none_ready n (Some thread ∷ threads) none =
     absurd (some_there n (places_from (suc n) is_some threads) none)
 
 -- where nobody is ready nothing runs
-nothing_runs : (w : World) (ts : List ℕ) → is_none_of ts ≡ true
-    → 0 ≡ budgets (with_budgets w ts) ts - budgets (parallel (with_budgets w ts)) ts
-nothing_runs w [] none = refl
-nothing_runs w (t ∷ ts) none = absurd (some_there t ts none)
+nothing_runs : (scheme : Scheme) (w : World) (ts : List ℕ) → is_none_of ts ≡ true
+    → 0 ≡ budgets (with_budgets w ts) ts - budgets (phase_of scheme (with_budgets w ts)) ts
+nothing_runs scheme w [] none = refl
+nothing_runs scheme w (t ∷ ts) none = absurd (some_there t ts none)
 
 -- it is what was said before the serial phase
 behind_serial : (work : ℕ) (answers rest : List Answer) (play : Play World) (end : FlatEnd)
@@ -103,62 +104,66 @@ ended_is a end answers rest is =
     ]) is
 
 -- behind the signal point
-begun_ended : (w : World) (answers rest : List Answer) (end : FlatEnd)
-    → over answers (begun w) ≡ gives end rest → ended_work end ≡ phase_work w
-begun_ended w answers rest end is =
+begun_ended : (scheme : Scheme) (w : World) (answers rest : List Answer) (end : FlatEnd)
+    → over answers (begun scheme w) ≡ gives end rest → ended_work end ≡ phase_work scheme w
+begun_ended scheme w answers rest end is =
     go (is_none_of (live_threads w)) refl (is_none_of (ready_threads w)) refl is
   where
     go : (dead : Bool) → is_none_of (live_threads w) ≡ dead → (idle : Bool)
         → is_none_of (ready_threads w) ≡ idle
         → over answers (cond dead (done (finished w))
-        (cond idle (done (stalled w)) (phases w (ready_threads w)))) ≡ gives end rest
-        → ended_work end ≡ phase_work w
+        (cond idle (done (stalled w)) (phases scheme w (ready_threads w)))) ≡ gives end rest
+        → ended_work end ≡ phase_work scheme w
     go true none idle ready h =
         sym (ended_is (finished w) end answers rest h)
-        ∙ nothing_runs w (ready_threads w) (none_ready 1 w.threads none)
+        ∙ nothing_runs scheme w (ready_threads w) (none_ready 1 w.threads none)
     go false some true ready h =
-        sym (ended_is (stalled w) end answers rest h) ∙ nothing_runs w (ready_threads w) ready
+        sym (ended_is (stalled w) end answers rest h)
+        ∙ nothing_runs scheme w (ready_threads w) ready
     go false some false ready h =
-        behind_serial (phase_work w) answers rest
-        (serial_of (parallel (with_budgets w (ready_threads w))) (ready_threads w)) end h
+        behind_serial (phase_work scheme w) answers rest
+        (serial_of (phase_of scheme (with_budgets w (ready_threads w))) (ready_threads w)) end h
 
 -- A round that came to its end over all of these answers ran what it had begun.
-pub round_ended : (w : World) (answers : List Answer) (end : FlatEnd)
-    → over answers (round_of w) ≡ gives end [] → ended_work end ≡ begun_work w answers
-round_ended w answers end is = go (is_none_of (live_threads w)) answers is
+pub round_ended : (scheme : Scheme) (w : World) (answers : List Answer) (end : FlatEnd)
+    → over answers (round_of scheme w) ≡ gives end []
+    → ended_work end ≡ begun_work scheme w answers
+round_ended scheme w answers end is = go (is_none_of (live_threads w)) answers is
   where
     go : (dead : Bool) (answers : List Answer)
         → over answers (cond dead (done (finished w))
         (ask (signals_question (w.rounds + 1)) w.output w.error
-        (λ answer. begun (ripen (signalled w (posts_of answer)))))) ≡ gives end []
-        → ended_work end ≡ begun_work w answers
+        (λ answer. begun scheme (ripen (signalled w (posts_of answer)))))) ≡ gives end []
+        → ended_work end ≡ begun_work scheme w answers
     go true [] h = sym (ended_is (finished w) end [] [] h)
     go true (answer ∷ answers) h = absurd cc
     go false [] h = absurd cc
     go false (answer ∷ answers) h =
-        begun_ended (ripen (signalled w (posts_of answer))) answers [] end h
+        begun_ended scheme (ripen (signalled w (posts_of answer))) answers [] end h
 
 -- ---- a round that has stopped behind its signal point
 
-pub round_until : {T : Type 0} (q : ℕ) (s s' last : State) (list : List Post)
+pub round_until : {T : Type 0} (scheme : Scheme) (q : ℕ) (s s' last : State) (list : List Post)
     (begins : (q : ℕ) (o e : List ℕ)
     → ripen (signalled (sent o e (world_of q s)) list) ≡ sent o e (world_of q s'))
     (play : World → Play FlatEnd) (before asked after : BorderState)
     (crosses : Crosses before (exchanged (Signals s.round list)) asked) (result : Result T RunStop)
     (work : ℕ)
     → IfErr result (λ stop. StopsIn q world_ended play (stopper stop) s' asked after)
-    → OnErr result ((o e : List ℕ) → phase_work (sent o e (world_of q s')) ≡ work)
+    → OnErr result ((o e : List ℕ) → phase_work scheme (sent o e (world_of q s')) ≡ work)
     → OnErr result ((o e : List ℕ)
-    → begun_work (sent o e (world_of q s)) (answers_since before.shim.told after.shim.told) ≡ work)
-round_until q s s' last list begins play before asked after crosses (Ok end) work stops ran = tt
-round_until q s s' last list begins play before asked after crosses (Err stop) work stops ran =
-    λ o e.
+    → begun_work scheme (sent o e (world_of q s))
+    (answers_since before.shim.told after.shim.told) ≡ work)
+round_until scheme q s s' last list begins play before asked after crosses (Ok end) work stops
+    ran = tt
+round_until scheme q s s' last list begins play before asked after crosses (Err stop) work stops
+    ran = λ o e.
     let more = stops_told q world_ended play (stopper stop) s' asked after stops in
-    ap (begun_work (sent o e (world_of q s)))
+    ap (begun_work scheme (sent o e (world_of q s)))
     (since_more before.shim.told after.shim.told (Signals s.round list ∷ more.0)
     (more.1 ∙ ap (λ told. told ++ more.0) crosses.tells.exchanges
     ∙ append_assoc before.shim.told (Signals s.round list ∷ []) more.0))
-    ∙ ap phase_work (begins q o e) ∙ ran o e
+    ∙ ap (phase_work scheme) (begins q o e) ∙ ran o e
 
 -- ---- what a call tells more
 

@@ -3,6 +3,8 @@
 use Rattle.std.specs.Prelude.{ℕ, ◌≡◌, ◌+◌, ◌-◌, ◌≤◌, List, map, length, false, Some, slice_get}
 use Rattle.dos_world.specs.World.{World}
 use Rattle.dos_world.specs.declared.Config.{Config}
+use Rattle.dos_world.specs.declared.Scheme.TheVariants.{Ownership}
+use Rattle.quantum_run.specs.Packs.{empty_pack}
 use Rattle.quantum_run.specs.Shows.{Pack}
 use Rattle.worker_pool.specs.Ran.{AllRan}
 use Rattle.flat_machine.specs.Round.{with_budgets, parallel, budgets as world_budgets}
@@ -30,7 +32,7 @@ pub record WentOut (before : State) (a : Away) : Type 0 where
       → i ≡ j
   pub few : length a.starters ≤ 64
   pub hands : Handing a.starters
-      (map (pack_of before.table (length before.frames.pages)) a.starters) before.frames
+      (map (pack_of before.table (empty_pack (length before.frames.pages))) a.starters) before.frames
       a.state.frames a.packs (length before.frames.pages)
   pub table : a.state.table ≡ before.table
   pub round : a.state.round ≡ before.round
@@ -74,9 +76,10 @@ pub record IsParallelOf (k : Held) (work : ℕ) (after : Held) : Type 0 where
 -- room for the packs to come back, and for the next round
 pub record HasRoomToComeBack (frames : ℕ) (config : Config) (starters : ℕ) (spare out : List Pack)
     (spare_room out_room : ℕ) : Type 0 where
+  pub scheme : config.scheme ≡ Ownership
   pub frames_are : frames ≡ config.frames
   pub starters_room : 64 ≤ starters
-  pub empty : AreSpare frames spare
+  pub empty : AreSpare (empty_pack frames) spare
   pub many : 64 ≤ length spare + length out
   pub fits : length spare + length out ≤ spare_room
   pub room : 64 ≤ out_room

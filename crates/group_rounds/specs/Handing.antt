@@ -4,10 +4,13 @@ use Rattle.std.specs.Prelude.{option_map, slice_get, slice_set}
 use Rattle.dos_world.specs.declared.Config.{Config}
 use Rattle.dos_world.specs.declared.Owner.TheVariants.{Of}
 use Rattle.dos_world.specs.declared.Scheme.{Scheme}
+use Rattle.dos_world.specs.declared.Scheme.TheVariants.{Buffered, Ownership}
+use Rattle.dos_world.specs.Registers.{blank}
 use Rattle.flat_machine.specs.Laws.{kept}
 use Rattle.page_store.specs.Store.{Store, whole, owner_at, with_away}
 use Rattle.flat_machine.specs.Laws.{without_progress}
-use Rattle.quantum_run.specs.Packs.{bytes_of_frame, empty_pack, with_own_page, with_thread_of}
+use Rattle.quantum_run.specs.Packs.{bytes_of_frame, empty_pack, empty_writing, with_own_page}
+use Rattle.quantum_run.specs.Packs.{with_thread_of}
 pub use Rattle.quantum_run.specs.Packs.{view_of}
 use Rattle.quantum_run.specs.Shows.{Pack}
 use Rattle.proc_table.specs.Tables.{Tables, thread_in}
@@ -64,15 +67,24 @@ pub record AreSet (packs : List Pack) (old new : Tables) : Type 0 where
 
 -- ---- going out
 
--- no pages, and room for so many frames
-abbrev pub AreSpare : ℕ → List Pack → Type 0
-AreSpare room packs = (p : Pack) → In packs p → (p.pages ≡ []) × (p.room ≡ room)
+-- the pack that is reserved for a scheme, where there are so many frames
+abbrev pub blank_pack : Scheme → ℕ → Pack
+blank_pack Ownership frames = empty_pack frames
+blank_pack Buffered frames = empty_writing
 
--- the pack of a thread, before its pages come
-abbrev pub pack_of : Tables → ℕ → ℕ → Pack
-pack_of table room t = elim (thread_in table.threads t) [
-  | None ↦ empty_pack room
-  | Some x ↦ with_thread_of (empty_pack room) t x.process x.registers x.budget
+-- a pack of no thread, which has written nothing
+abbrev pub emptied_pack : Pack → Pack
+emptied_pack p = with_thread_of p 0 0 (blank 0) 0
+
+-- each of them, emptied, is this one
+abbrev pub AreSpare : (first : Pack) → List Pack → Type 0
+AreSpare first packs = (p : Pack) → In packs p → emptied_pack p ≡ first
+
+-- the pack of a thread, before its pages come: this one, filled
+abbrev pub pack_of : Tables → (first : Pack) → ℕ → Pack
+pack_of table first t = elim (thread_in table.threads t) [
+  | None ↦ first
+  | Some x ↦ with_thread_of first t x.process x.registers x.budget
 ]
 
 -- whose pack a frame's page goes into
@@ -140,9 +152,9 @@ pub record PacksFor : Type 0 where
 abbrev pub packs_for : Config → PacksFor
 packs_for config = record { frames = config.frames; scheme = config.scheme }
 
--- At least 64 packs are spare, each with room for so many frames, and none is out.
-pub record ArePacks (frames : ℕ) (spare out : List Pack) (spare_room out_room : ℕ) : Type 0 where
-  pub empty : AreSpare frames spare
+-- At least 64 packs are spare, each of them this one when emptied, and none is out.
+pub record ArePacks (first : Pack) (spare out : List Pack) (spare_room out_room : ℕ) : Type 0 where
+  pub empty : AreSpare first spare
   pub many : 64 ≤ length spare
   pub fits : length spare ≤ spare_room
   pub none : out ≡ []

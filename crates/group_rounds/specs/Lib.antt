@@ -1,4 +1,5 @@
 pub mod Away
+pub mod Buffers
 pub mod Plays
 pub mod StatePlays
 pub mod Kernels

@@ -6,6 +6,7 @@ use Rattle.dos_world.specs.Signals.{would_wait}
 use Rattle.dos_world.specs.declared.Scheme.{Scheme}
 use Rattle.dos_world.specs.declared.ThreadState.TheVariants.{Ready, Retry}
 use Rattle.proc_table.specs.Tables.{IsLiveThread, thread_in}
+use Rattle.flat_machine.specs.Buffered.{all_put}
 use Rattle.flat_machine.specs.Round.{all_alone, phase_of}
 use Rattle.kernel_calls.specs.StateWorld.{IsSound, sent, world_of, StaysInRound}
 use Rattle.kernel_calls.specs.declared.state.State.{State}
@@ -31,18 +32,22 @@ is_ripe w t = is_state Retry (thread_at w t) && not (would_wait w t)
 abbrev pub ripe_in : World → List ℕ
 ripe_in w = filter (λ t. not (would_wait w t)) (numbers_of (is_state Retry) w.threads)
 
--- The parallel phase of a scheme has run, and nothing else is another.
-pub record HaveRunPhase (scheme : Scheme) (old new : State) : Type 0 where
+-- This change of the flat world led from the old state to the new one, and nothing else is another.
+pub record LedBy (change : World → World) (old new : State) : Type 0 where
   pub runs : (q : ℕ) (o e : List ℕ)
-      → phase_of scheme (sent o e (world_of q old)) ≡ sent o e (world_of q new)
+      → change (sent o e (world_of q old)) ≡ sent o e (world_of q new)
   pub sound : IsSound new
   pub round : StaysInRound old new
   pub count : KeepsCount old new
 
--- Each of these threads has run its part by itself, and nothing else is another.
-pub record HaveRunAlone (starters : List ℕ) (old new : State) : Type 0 where
-  pub runs : (q : ℕ) (o e : List ℕ)
-      → all_alone (sent o e (world_of q old)) starters ≡ sent o e (world_of q new)
-  pub sound : IsSound new
-  pub round : StaysInRound old new
-  pub count : KeepsCount old new
+-- The parallel phase of a scheme has run.
+abbrev pub HaveRunPhase : Scheme → (old new : State) → Type 0
+HaveRunPhase scheme = LedBy (phase_of scheme)
+
+-- Each of these threads has run its part by itself.
+abbrev pub HaveRunAlone : (starters : List ℕ) → (old new : State) → Type 0
+HaveRunAlone starters = LedBy (λ w. all_alone w starters)
+
+-- The parts of these threads, each taken of the world as it was, have been put in one after another.
+abbrev pub HavePutParts : (starters : List ℕ) → (old new : State) → Type 0
+HavePutParts starters = LedBy (λ w. all_put w w starters)

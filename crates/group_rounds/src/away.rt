@@ -9,7 +9,7 @@ use crate::kernel::Kernel;
 use crate::packs;
 use crate::packs::Packs;
 use crate::phases::{gather, set_budgets};
-use dos_world::Config;
+use dos_world::{Config, Scheme};
 use kernel_calls::State;
 use quantum_run::{Pack, Shared};
 use std::marker::Model;
@@ -108,6 +108,7 @@ pub fn hand_out(kernel: Kernel) -> HandedOut
     } = kernel;
     let Packs {
         frames,
+        scheme: _,
         mut spare,
         mut out,
         stand_in,
@@ -180,6 +181,7 @@ pub fn take_in(ran: PartsRun) -> Kernel
         starters,
         packs: Packs {
             frames,
+            scheme: Scheme::Ownership,
             spare,
             out,
             stand_in: Some(stand_in),

@@ -6,6 +6,7 @@
 #![tactic(auto)]
 
 mod away;
+mod buffers;
 mod in_place;
 mod kernel;
 mod packs;

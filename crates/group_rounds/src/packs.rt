@@ -3,19 +3,21 @@ ghost use Rattle.std.specs.Prelude.{◌≡◌, ◌≢◌, true, ◌+◌, ◌-◌
 ghost use Rattle.std.specs.Prelude.{List, Some, IfOk, IsSome, MatchOption, length, map, slice_get};
 ghost use Rattle.std.specs.Vec.{vec_capacity};
 ghost use Rattle.dos_world.specs.declared.Owner.TheVariants.{Of};
+ghost use Rattle.dos_world.specs.declared.Scheme.TheVariants.{Buffered, Ownership};
 ghost use Rattle.page_store.specs.Store.{AreHome, IsAway, IsHome, owner_at};
 ghost use Rattle.proc_table.specs.Tables.{IsLiveThread};
 ghost use Rattle.quantum_run.specs.Shows.{Pack as pack_value};
-ghost use Rattle.quantum_run.specs.Packs.{HoldsNo};
+ghost use Rattle.quantum_run.specs.Packs.{HoldsNo, empty_pack};
 ghost use Rattle.kernel_calls.specs.StateWorld.{IsSound};
 ghost use Rattle.group_rounds.specs.Parts.{work_between};
 ghost use Rattle.worker_pool.specs.Ran.{AllCanRun, AllRan, GrewBy, budgets_left};
-ghost use Rattle.group_rounds.specs.Phases.{AreLive, HaveRunAlone, HaveRunPhase, ready_in};
+ghost use Rattle.group_rounds.specs.Phases.{AreLive, HavePutParts, HaveRunAlone, HaveRunPhase, ready_in};
 ghost use Rattle.group_rounds.specs.Handing.{AreOnce, In, all_pages, HaveNoFrameTwice, AreOthers};
 ghost use Rattle.group_rounds.specs.Handing.{AreBegun};
 ghost use Rattle.group_rounds.specs.Handing.{AreSpare, GoesOut, Handing, PutBack, AreSet, Stays};
-ghost use Rattle.group_rounds.specs.Handing.{pack_of, view_of};
+ghost use Rattle.group_rounds.specs.Handing.{blank_pack, emptied_pack, pack_of, view_of};
 
+use crate::buffers::buffered_packs;
 use crate::in_place::{is_callers, run_each};
 use dos_world::{Owner, Scheme};
 use kernel_calls::State;
@@ -45,24 +47,34 @@ pub(crate) struct Packs {
 impl Model for Packs {
     ghost use Rattle.std.specs.Prelude.{ℕ, IsSome};
     ghost use Rattle.std.specs.Vec.{vec_capacity};
-    ghost use Rattle.group_rounds.specs.Handing.{ArePacks, PacksFor};
+    ghost use Rattle.group_rounds.specs.Handing.{ArePacks, PacksFor, blank_pack};
 
     ghost Value = { PacksFor };
 
     ghost view = { λ p. record { frames = p.frames; scheme = p.scheme } };
 
-    ghost invariant = { λ p. ArePacks p.frames p.spare.items p.out.items (vec_capacity p.spare)
+    ghost invariant = { λ p. ArePacks (blank_pack p.scheme p.frames) p.spare.items p.out.items (vec_capacity p.spare)
         (vec_capacity p.out) × IsSome p.stand_in };
 }
 
+// one pack of a scheme
+fn reserve_pack(alloc: Global, frames: u32, scheme: Scheme) -> Result<Pack, AllocError>
+    ensures { IfOk result (λ p. p ≡ blank_pack scheme frames) }
+{
+    match scheme {
+        Scheme::Ownership => Pack::reserve(alloc, frames),
+        Scheme::Buffered => Pack::reserve_buffered(alloc),
+    }
+}
+
 // so many packs, and room for them
-fn spare_packs(alloc: Global, frames: u32) -> Result<Vec<Pack>, AllocError>
-    ensures { IfOk result (λ packs. AreSpare frames packs.items × (length packs.items ≡ 64)
-        × (64 ≤ vec_capacity packs)) }
+fn spare_packs(alloc: Global, frames: u32, scheme: Scheme) -> Result<Vec<Pack>, AllocError>
+    ensures { IfOk result (λ packs. AreSpare (blank_pack scheme frames) packs.items
+        × (length packs.items ≡ 64) × (64 ≤ vec_capacity packs)) }
 {
     let mut packs = Vec::with_capacity(alloc, THREADS)?;
     for _place in 0..THREADS {
-        packs.push(Pack::reserve(alloc, frames)?)?;
+        packs.push(reserve_pack(alloc, frames, scheme)?)?;
     }
     Ok(packs)
 }
@@ -83,7 +95,8 @@ impl Packs {
     {
         Ok(Packs {
             frames,
-            spare: spare_packs(alloc, frames)?,
+            scheme,
+            spare: spare_packs(alloc, frames, scheme)?,
             out: Vec::with_capacity(alloc, THREADS)?,
             stand_in: Some(reserve_stand_in(alloc)?),
         })
@@ -101,12 +114,57 @@ impl Packs {
             (work_between state.old state.new starters.now) }
         ensures fixed { W.fixed workers.new ≡ W.fixed workers.old }
     {
+        match self.scheme {
+            Scheme::Ownership => self.run_owning(state, starters, workers),
+            Scheme::Buffered => self.run_writing(state, starters, workers),
+        }
+    }
+
+    // that of the ownership scheme: each starter by itself, over its own pages; in place where only
+    // the caller's own thread would run them
+    fn run_owning<W: Workers>(&mut self, state: &mut State, starters: &[u32], workers: &mut W)
+        requires scheme { self.old.scheme ≡ Ownership }
+        requires sound { IsSound state.old }
+        requires live { AreLive state.old.table.threads starters.now }
+        requires apart { AreOnce starters.now }
+        requires few { length starters.now ≤ 64 }
+        requires level { self.old.frames ≡ length state.old.frames.owners }
+        ensures parts { HaveRunAlone starters.now state.old state.new }
+        ensures packs { self.new ≡ self.old }
+        ensures tally { GrewBy (W.tally workers.old) (W.tally workers.new)
+            (work_between state.old state.new starters.now) }
+        ensures fixed { W.fixed workers.new ≡ W.fixed workers.old }
+    {
         if is_callers(workers, starters.len()) {
             run_each(state, starters, workers);
             return;
         }
         let stand_in = &mut self.stand_in;
         parallel_packs(
+            state,
+            starters,
+            &mut self.spare,
+            &mut self.out,
+            stand_in,
+            workers,
+        );
+    }
+
+    // that of the buffered scheme
+    fn run_writing<W: Workers>(&mut self, state: &mut State, starters: &[u32], workers: &mut W)
+        requires scheme { self.old.scheme ≡ Buffered }
+        requires sound { IsSound state.old }
+        requires live { AreLive state.old.table.threads starters.now }
+        requires apart { AreOnce starters.now }
+        requires few { length starters.now ≤ 64 }
+        ensures parts { HavePutParts starters.now state.old state.new }
+        ensures packs { self.new ≡ self.old }
+        ensures tally { GrewBy (W.tally workers.old) (W.tally workers.new)
+            (work_between state.old state.new starters.now) }
+        ensures fixed { W.fixed workers.new ≡ W.fixed workers.old }
+    {
+        let stand_in = &mut self.stand_in;
+        buffered_packs(
             state,
             starters,
             &mut self.spare,
@@ -158,10 +216,12 @@ fn fill_next(table: &Table, tid: u32, spare: &mut Vec<Pack>, packs: &mut Vec<Pac
     requires some { 0 < length spare.old.items }
     requires room { length packs.old.items + 1 ≤ vec_capacity packs.old }
     requires empty { (p : pack_value) → In spare.old.items p → p.pages ≡ [] }
-    ensures fills { (room : ℕ) → AreSpare room spare.old.items
-        → packs.new.items ≡ packs.old.items ++ pack_of table.now room tid ∷ [] }
-    ensures spare { (room : ℕ) → AreSpare room spare.old.items → AreSpare room spare.new.items }
+    ensures fills { (first : pack_value) → AreSpare first spare.old.items
+        → packs.new.items ≡ packs.old.items ++ pack_of table.now first tid ∷ [] }
+    ensures spare { (first : pack_value) → AreSpare first spare.old.items
+        → AreSpare first spare.new.items }
     ensures less { length spare.new.items + 1 ≡ length spare.old.items }
+    ensures count { length packs.new.items ≡ length packs.old.items + 1 }
     ensures empty { (p : pack_value) → In spare.new.items p → p.pages ≡ [] }
     ensures room { vec_capacity packs.old ≤ vec_capacity packs.new }
     ensures same_room { vec_capacity spare.new ≡ vec_capacity spare.old }
@@ -177,6 +237,31 @@ fn fill_next(table: &Table, tid: u32, spare: &mut Vec<Pack>, packs: &mut Vec<Pac
             keep(packs, pack);
         }
         None => unreachable!(),
+    }
+}
+
+/// Each starter has a pack, with no pages and no words yet.
+pub(crate) fn fill_each(
+    table: &Table,
+    starters: &[u32],
+    spare: &mut Vec<Pack>,
+    packs: &mut Vec<Pack>,
+)
+    requires live { AreLive table.now.threads starters.now }
+    requires none { packs.old.items ≡ [] }
+    requires room { length starters.now ≤ vec_capacity packs.old }
+    requires enough { length starters.now ≤ length spare.old.items }
+    requires empty { (p : pack_value) → In spare.old.items p → p.pages ≡ [] }
+    ensures fills { (first : pack_value) → AreSpare first spare.old.items
+        → packs.new.items ≡ map (pack_of table.now first) starters.now }
+    ensures spare { (first : pack_value) → AreSpare first spare.old.items
+        → AreSpare first spare.new.items }
+    ensures less { length spare.new.items + length starters.now ≡ length spare.old.items }
+    ensures spare_room { vec_capacity spare.new ≡ vec_capacity spare.old }
+    ensures room { vec_capacity packs.old ≤ vec_capacity packs.new }
+{
+    for &tid in starters {
+        fill_next(table, tid, spare, packs);
     }
 }
 
@@ -250,22 +335,20 @@ pub(crate) fn hand_out(
     requires none { packs.old.items ≡ [] }
     requires room { length starters.now ≤ vec_capacity packs.old }
     requires enough { length starters.now ≤ length spare.old.items }
-    requires spare { AreSpare (length state.old.frames.pages) spare.old.items }
+    requires spare { AreSpare (empty_pack (length state.old.frames.pages)) spare.old.items }
     ensures hands { Handing starters.now
-        (map (pack_of state.old.table (length state.old.frames.pages)) starters.now)
+        (map (pack_of state.old.table (empty_pack (length state.old.frames.pages))) starters.now)
         state.old.frames state.new.frames packs.new.items (length state.old.frames.pages) }
     ensures table { state.new.table ≡ state.old.table }
     ensures round { state.new.round ≡ state.old.round }
     ensures pipes { state.new.pipes ≡ state.old.pipes }
     ensures futexes { state.new.futexes ≡ state.old.futexes }
-    ensures spare { AreSpare (length state.old.frames.pages) spare.new.items }
+    ensures spare { AreSpare (empty_pack (length state.old.frames.pages)) spare.new.items }
     ensures less { length spare.new.items + length starters.now ≡ length spare.old.items }
     ensures spare_room { vec_capacity spare.new ≡ vec_capacity spare.old }
     ensures room { vec_capacity packs.old ≤ vec_capacity packs.new }
 {
-    for &tid in starters {
-        fill_next(&state.table, tid, spare, packs);
-    }
+    fill_each(&state.table, starters, spare, packs);
     hand_pages(&mut state.frames, starters, packs);
 }
 
@@ -299,8 +382,8 @@ fn take_back(state: &mut State, pack: &mut Pack)
     put_pages(&mut state.frames, pack);
 }
 
-// for which there is room
-fn keep(spare: &mut Vec<Pack>, pack: Pack)
+/// One pack more, for which there is room.
+pub(crate) fn keep(spare: &mut Vec<Pack>, pack: Pack)
     requires room { length spare.old.items + 1 ≤ vec_capacity spare.old }
     ensures items { spare.new.items ≡ spare.old.items ++ pack ∷ [] }
     ensures room { vec_capacity spare.old ≤ vec_capacity spare.new }
@@ -346,8 +429,8 @@ fn put_in(stand_in: &mut Option<Shared>, other: Shared)
     *stand_in = Some(other);
 }
 
-// each pack runs on the workers, with what stands in taken out and put back
-fn run_out<W: Workers>(
+/// Each pack runs on the workers, with what stands in taken out and put back.
+pub(crate) fn run_out<W: Workers>(
     state: &mut State,
     stand_in: &mut Option<Shared>,
     packs: &mut Vec<Pack>,
@@ -386,9 +469,10 @@ pub(crate) fn take_in(state: &mut State, packs: &mut Vec<Pack>, spare: &mut Vec<
     ensures futexes { state.new.futexes ≡ state.old.futexes }
     ensures packs { packs.new.items ≡ [] }
     ensures spare { length spare.new.items ≡ length spare.old.items + length packs.old.items }
-    ensures all_spare { (room : ℕ) → AreSpare room spare.old.items
-        → ((p : pack_value) → In packs.old.items p → p.room ≡ room)
-        → AreSpare room spare.new.items }
+    ensures all_spare { (first : pack_value) → AreSpare first spare.old.items
+        → ((p : pack_value) → In packs.old.items p
+        → emptied_pack (record p { pages = [] }) ≡ first)
+        → AreSpare first spare.new.items }
     ensures spare_room { vec_capacity spare.old ≤ vec_capacity spare.new }
     ensures packs_room { vec_capacity packs.new ≡ vec_capacity packs.old }
 {
@@ -415,7 +499,7 @@ fn parallel_packs<W: Workers>(
     requires none { packs.old.items ≡ [] }
     requires room { length starters.now ≤ vec_capacity packs.old }
     requires enough { length starters.now ≤ length spare.old.items }
-    requires spare { AreSpare (length state.old.frames.pages) spare.old.items }
+    requires spare { AreSpare (empty_pack (length state.old.frames.pages)) spare.old.items }
     requires spare_room { length spare.old.items ≤ vec_capacity spare.old }
     ensures parts { HaveRunAlone starters.now state.old state.new }
     ensures tally { GrewBy (W.tally workers.old) (W.tally workers.new)
@@ -424,7 +508,7 @@ fn parallel_packs<W: Workers>(
     ensures none { packs.new.items ≡ [] }
     ensures room { vec_capacity packs.old ≤ vec_capacity packs.new }
     ensures enough { length spare.new.items ≡ length spare.old.items }
-    ensures spare { AreSpare (length state.old.frames.pages) spare.new.items }
+    ensures spare { AreSpare (empty_pack (length state.old.frames.pages)) spare.new.items }
     ensures spare_room { vec_capacity spare.old ≤ vec_capacity spare.new }
     ensures stand_in { IsSome stand_in.new }
 {

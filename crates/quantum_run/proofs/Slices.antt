@@ -47,6 +47,7 @@ begun-owning p v q out = λ w shows.
 -- What runs out from a part's begin is the whole part.
 pub begun-runs : (p : Pack) (v : View) (q : Pack) → RanOut (begun_pack p) v q → Finished p v q
 begun-runs p v q out = record {
+  scheme = out.scheme;
   owning = λ none. begun-owning p v q (out.owning none);
   writing = λ words is w sees.
       out.writing words is w
@@ -131,8 +132,9 @@ no-words p words none is = never (sym none ∙ ap is_some is)
     never q = cc
 
 pub owning-out : (p : Pack) (v : View) (after : Pack) → has_words p ≡ false
-    → RanOutOwning p v after → RanOut p v after
-owning-out p v after none out = record {
+    → has_words after ≡ false → RanOutOwning p v after → RanOut p v after
+owning-out p v after none still out = record {
+  scheme = still ∙ sym none;
   owning = λ _. out;
   writing = λ words is. absurd (no-words p words none is);
 }
@@ -148,5 +150,5 @@ pub owning-leads : (p : Pack) (v : View) (later : Pack) → has_words p ≡ fals
     → has_words later ≡ false → LeadsToOwning p v later → LeadsTo p v later
 owning-leads p v later none still led = record {
   scheme = still ∙ sym none;
-  leads = λ after out. owning-out p v after none (led after (out.owning still));
+  leads = λ after out. owning-out p v after none (out.scheme ∙ still) (led after (out.owning still));
 }

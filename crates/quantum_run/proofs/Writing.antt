@@ -134,7 +134,7 @@ for-nothing p v = λ words is w sees.
 
 -- ---- what is seen
 
-joined-whole : (pages : List (Option (List ℕ)))
+pub joined-whole : (pages : List (Option (List ℕ)))
     → joined (map (option_map whole) pages) ≡ joined pages
 unfolding joined
 joined-whole [] = refl
@@ -228,6 +228,7 @@ module _ (frames : Store) (tables : Tables) (entries : List (ℕ × Entry)) (p :
 
       pub words-out : (is_some stop ≡ true) ⊎ (floor ≡ 0) → RanOut p view later
       words-out out = record {
+        scheme = sym (ap is_some was);
         owning = λ none. absurd (has none);
         writing = λ ws same w sees.
             ap (pack_left p)
@@ -242,6 +243,7 @@ module _ (frames : Store) (tables : Tables) (entries : List (ℕ × Entry)) (p :
       words-lead = record {
         scheme = sym (ap is_some was);
         leads = λ after out. record {
+          scheme = out.scheme ∙ sym (ap is_some was);
           owning = λ none. absurd (has none);
           writing = λ ws same w sees.
               out.writing now refl w

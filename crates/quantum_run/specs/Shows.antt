@@ -165,8 +165,9 @@ pub record CanRunWriting (p : Pack) (v : View) : Type 0 where
 
 -- ---- either
 
--- The later pack is the thread's whole part.
+-- The later pack is the thread's whole part, of the same scheme.
 pub record Finished (p : Pack) (v : View) (after : Pack) : Type 0 where
+  pub scheme : has_words after ≡ has_words p
   pub owning : has_words p ≡ false → FinishedOwning p v after
   pub writing : FinishedWriting p v after
 
@@ -174,9 +175,10 @@ pub record Finished (p : Pack) (v : View) (after : Pack) : Type 0 where
 abbrev pub begun_pack : Pack → Pack
 begun_pack p = record p { registers = released p.registers }
 
--- The later pack is the thread run out from where the earlier one stands, until it stops or its
--- budget is 0.
+-- The later pack, of the same scheme, is the thread run out from where the earlier one stands, until
+-- it stops or its budget is 0.
 pub record RanOut (p : Pack) (v : View) (after : Pack) : Type 0 where
+  pub scheme : has_words after ≡ has_words p
   pub owning : has_words p ≡ false → RanOutOwning p v after
   pub writing : RanOutWriting p v after
 

@@ -12,3 +12,5 @@ mod opening;
 mod quanta;
 #[cfg(test)]
 mod rounds;
+#[cfg(test)]
+mod schemes;

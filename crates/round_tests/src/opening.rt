@@ -222,7 +222,7 @@ fn frame(frames: &Frames, frame: u32) -> Option<(Owner, u32)> {
 }
 
 /// The word at an offset of a frame's page.
-fn word_at(frames: &Frames, frame: u32, offset: u32) -> Option<u32> {
+pub fn word_at(frames: &Frames, frame: u32, offset: u32) -> Option<u32> {
     if frame >= frames.count() || offset > 4092 {
         return None;
     }

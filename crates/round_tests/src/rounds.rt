@@ -36,13 +36,14 @@ fn guest(rt: &impl Abort, alloc: Global, parts: &[&[Instr]]) -> Image {
 }
 
 // these images as a group, which has run no round
-fn opened(rt: &impl Abort, alloc: Global, images: &[Image]) -> Kernel
+pub fn opened(rt: &impl Abort, alloc: Global, images: &[Image], config: Config) -> Kernel
     requires some { 1 ≤ length images.now }
     requires few { length images.now ≤ 8 }
-    ensures { IsFresh result CONFIG }
+    requires range { IsConfig config }
+    ensures { IsFresh result config }
 {
-    let state = open_state(alloc, images, &CONFIG).expect(rt, "room");
-    Kernel::new(alloc, state, CONFIG).expect(rt, "memory")
+    let state = open_state(alloc, images, &config).expect(rt, "room");
+    Kernel::new(alloc, state, config).expect(rt, "memory")
 }
 
 // a guest that ends with 7, and one that writes, as one group
@@ -53,7 +54,7 @@ fn group(rt: &impl Abort, alloc: Global) -> Kernel
         guest(rt, alloc, &[&ENDS_WITH_7]),
         guest(rt, alloc, &[&WRITES_HI]),
     ];
-    let kernel = opened(rt, alloc, &images);
+    let kernel = opened(rt, alloc, &images, CONFIG);
     drop(images);
     kernel
 }
@@ -63,7 +64,7 @@ fn yielding(rt: &impl Abort, alloc: Global) -> Kernel
     ensures { IsFresh result CONFIG }
 {
     let images = [guest(rt, alloc, &[&YIELDS, &WRITES_HI])];
-    let kernel = opened(rt, alloc, &images);
+    let kernel = opened(rt, alloc, &images, CONFIG);
     drop(images);
     kernel
 }
@@ -78,7 +79,7 @@ fn status_at(kernel: &Kernel, place: u32) -> Option<u8> {
 
 // Of a round and its phases no more is said than what a next phase needs: the tests look.
 
-fn round_over<S: Shim, O: Sink, E: Sink, W: Workers>(
+pub fn round_over<S: Shim, O: Sink, E: Sink, W: Workers>(
     kernel: &mut Kernel,
     shim: &mut S,
     out: &mut O,
@@ -133,15 +134,15 @@ fn at_once<R: Threads + Sync>(kernel: Kernel) -> (Kernel, u64)
 
 /// A shim that is asked, and two sinks.
 #[derive(Drop)]
-struct Outside {
-    shim: Quiet,
-    out: MemorySink,
-    err: MemorySink,
+pub struct Outside {
+    pub shim: Quiet,
+    pub out: MemorySink,
+    pub err: MemorySink,
 }
 
 impl Outside {
     // The sinks have room for 8 bytes each. The puts to output of these numbers fail.
-    fn new(rt: &impl Abort, alloc: Global, out_failing: &[u32]) -> Outside
+    pub fn new(rt: &impl Abort, alloc: Global, out_failing: &[u32]) -> Outside
         ensures { HasNoEnd (shown_by result.shim).told }
     {
         let shim = Quiet::new(alloc);

@@ -2,8 +2,10 @@ use Rattle.std.proofs.Common.{ℕ, List, ◌≤◌, ◌-◌, ◌≡◌, refl, sy
 use Rattle.std.proofs.Common.{le_trans, arith}
 use Rattle.flat_machine.specs.Round.{with_budgets}
 use Rattle.kernel_calls.specs.StateWorld.{sent, world_of}
+use Rattle.quantum_run.specs.Packs.{empty_pack}
+use Rattle.quantum_run.specs.Shows.{Pack}
 use Rattle.group_rounds.specs.Away.{WentOut, IsHandedOut}
-use Rattle.group_rounds.specs.Handing.{AreSpare, Handing, pack_of}
+use Rattle.group_rounds.specs.Handing.{AreSpare, Handing, PacksFor, blank_pack, pack_of}
 use Rattle.group_rounds.specs.Kernels.{Held, IsBetweenRounds}
 use Rattle.group_rounds.specs.Phases.{AreLive}
 use Rattle.group_rounds.proofs.AwayLaws.{away}
@@ -14,14 +16,14 @@ use Rattle.group_rounds.proofs.away.hand_out.Goals as goal
 
 pub gather-requires-clause-few : goal.gather-requires-clause-few
 gather-requires-clause-few c = few_live c.kernel.inside.state
-    (c.kernel.invariant.3 (ap (λ (k : Held). k.failed) c.kernel.view_is ∙ c.requires)).sound
+    (c.kernel.invariant.3 (ap (λ (k : Held). k.failed) c.kernel.view_is ∙ c.requires.running)).sound
 
 pub gather-requires-clause-room : goal.gather-requires-clause-room
 gather-requires-clause-room c = c.kernel.invariant.0
 
 pub set_budgets-requires-clause-sound : goal.set_budgets-requires-clause-sound
 set_budgets-requires-clause-sound c =
-    (c.kernel.invariant.3 (ap (λ (k : Held). k.failed) c.kernel.view_is ∙ c.requires)).sound
+    (c.kernel.invariant.3 (ap (λ (k : Held). k.failed) c.kernel.view_is ∙ c.requires.running)).sound
 
 pub set_budgets-requires-clause-live : goal.set_budgets-requires-clause-live
 set_budgets-requires-clause-live c =
@@ -60,17 +62,22 @@ hand_out-requires-clause-enough c =
 pub hand_out-requires-clause-spare : goal.hand_out-requires-clause-spare
 hand_out-requires-clause-spare c =
     let between =
-    c.kernel.invariant.3 (ap (λ (k : Held). k.failed) c.kernel.view_is ∙ c.requires) in
-    subst (λ (n : ℕ). AreSpare n c.packs.inside.spare.items)
-    (c.packs.view_is ∙ c.kernel.invariant.2 ∙ sym between.frames ∙ sym c.set_budgets.ensures.count
-    ∙ c.set_budgets.ensures.sound.counted.home.owners) c.packs.invariant.0.empty
+    c.kernel.invariant.3 (ap (λ (k : Held). k.failed) c.kernel.view_is ∙ c.requires.running) in
+    subst (λ (first : Pack). AreSpare first c.packs.inside.spare.items)
+    (ap (λ scheme. blank_pack scheme c.packs.inside.frames)
+    (ap (λ (x : PacksFor). x.scheme) (c.packs.view_is ∙ c.kernel.invariant.2)
+    ∙ ap (λ (k : Held). k.config.scheme) c.kernel.view_is ∙ c.requires.scheme)
+    ∙ ap empty_pack
+    (ap (λ (x : PacksFor). x.frames) (c.packs.view_is ∙ c.kernel.invariant.2)
+    ∙ sym between.frames ∙ sym c.set_budgets.ensures.count
+    ∙ c.set_budgets.ensures.sound.counted.home.owners)) c.packs.invariant.0.empty
 
 -- the state with the budgets set may stand between two rounds
 between-is : (c : goal.After-hand_out)
     → IsBetweenRounds c.set_budgets.new.state c.kernel.inside.config
 between-is c =
     let between =
-    c.kernel.invariant.3 (ap (λ (k : Held). k.failed) c.kernel.view_is ∙ c.requires) in
+    c.kernel.invariant.3 (ap (λ (k : Held). k.failed) c.kernel.view_is ∙ c.requires.running) in
     record {
       sound = c.set_budgets.ensures.sound;
       range = between.range;
@@ -92,7 +99,7 @@ went-out c = record {
   few = c.gather.ensures.few;
   hands =
       let s = c.set_budgets.new.state in
-      subst (λ (ts : List ℕ). Handing ts (map (pack_of s.table (length s.frames.pages)) ts) s.frames
+      subst (λ (ts : List ℕ). Handing ts (map (pack_of s.table (empty_pack (length s.frames.pages))) ts) s.frames
       c.hand_out.new.state.frames c.hand_out.new.packs.items (length s.frames.pages))
       c.as_slice-2.ensures.value c.hand_out.ensures.hands;
   table = c.hand_out.ensures.table;
@@ -103,15 +110,16 @@ went-out c = record {
 
 pub invariant_of-result : goal.invariant_of-result
 invariant_of-result c =
-    let frames_are = c.packs.view_is ∙ c.kernel.invariant.2 in
+    let frames_are = ap (λ (x : PacksFor). x.frames) (c.packs.view_is ∙ c.kernel.invariant.2) in
     let between = between-is c in
     let level = c.hand_out.ensures.hands.level in
     let less = c.hand_out.ensures.less in (
       (c.set_budgets.new.state, went-out c),
       record {
+        scheme = ap (λ (k : Held). k.config.scheme) c.kernel.view_is ∙ c.requires.scheme;
         frames_are = frames_are;
         starters_room = c.gather.ensures.room;
-        empty = subst (λ (n : ℕ). AreSpare n c.hand_out.new.spare.items)
+        empty = subst (λ (n : ℕ). AreSpare (empty_pack n) c.hand_out.new.spare.items)
             (sym between.sound.counted.home.owners ∙ between.frames ∙ sym frames_are)
             c.hand_out.ensures.spare;
         many = omega (arith, c.packs.invariant.0.many, level, less);

@@ -30,6 +30,7 @@ invariant_of-result g c =
             e.runs,
       ),
       record {
+        scheme = room.scheme;
         frames_are = room.frames_are;
         starters_room = room.starters_room;
         empty = room.empty;

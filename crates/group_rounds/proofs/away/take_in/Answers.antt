@@ -1,7 +1,8 @@
-use Rattle.std.proofs.Common.{ℕ, ◌≤◌, ◌-◌, refl, sym, ◌∙◌, subst, arith, false}
+use Rattle.std.proofs.Common.{ℕ, ◌≤◌, ◌-◌, refl, ap, sym, ◌∙◌, subst, arith, false}
 use Rattle.worker_pool.specs.Ran.{budgets_left}
+use Rattle.quantum_run.specs.Packs.{empty_pack}
 use Rattle.group_rounds.specs.Away.{Away, HaveRun, IsParallelOf}
-use Rattle.group_rounds.proofs.AwayLaws.{away, are-away, are-apart, are-live, are-others, have-room}
+use Rattle.group_rounds.proofs.AwayLaws.{away, are-away, are-apart, are-live, are-others, are-spare, packs-for}
 use Rattle.group_rounds.proofs.AwayLaws.{between-again, is-parallel}
 use Rattle.group_rounds.proofs.away.take_in.Goals as goal
 
@@ -30,8 +31,9 @@ invariant_of-result c =
     let a : Away = away c.ran.inside.state c.ran.inside.config c.ran.inside.starters.items v.1 in
     let spare = c.take_in.ensures.spare in (
       record {
-        empty = c.take_in.ensures.all_spare c.ran.inside.frames room.empty
-            (λ q k. have-room v.0 a v.2 c.ran.inside.out.items v.3 q k ∙ sym room.frames_are);
+        empty = c.take_in.ensures.all_spare (empty_pack c.ran.inside.frames) room.empty
+            (λ q k. are-spare v.0 a v.2 c.ran.inside.out.items v.3 q k
+            ∙ ap empty_pack (sym room.frames_are));
         many = omega (arith, room.many, spare);
         fits = omega (arith, room.fits, spare, c.take_in.ensures.spare_room);
         none = c.take_in.ensures.packs;
@@ -44,11 +46,12 @@ pub invariant_of-result-2 : goal.invariant_of-result-2
 invariant_of-result-2 c =
     let v = c.ran.invariant.0 in
     let room = c.ran.invariant.1 in
-    let a : Away = away c.ran.inside.state c.ran.inside.config c.ran.inside.starters.items v.1 in
+    let i = c.ran.inside in
+    let a : Away = away i.state i.config i.starters.items v.1 in
     let e = c.take_in.ensures in (
       room.starters_room,
       subst (λ (n : ℕ). 1 ≤ n) (sym (e.round ∙ v.2.round)) v.2.begun,
-      room.frames_are,
+      packs-for i.config i.frames room.frames_are room.scheme,
       λ running. between-again v.0 a v.2 c.ran.inside.out.items v.3 c.take_in.new.state e.back e.set
           e.round e.pipes e.futexes,
     )

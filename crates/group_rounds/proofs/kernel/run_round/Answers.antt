@@ -1,6 +1,7 @@
 use Rattle.std.proofs.Common.{◌≡◌, ◌≤◌, ◌∙◌, ap, sym, subst}
 use Rattle.std.specs.Prelude.{IfOk, OnErr, OnOk}
 use Rattle.flat_machine.specs.Round.{round_of}
+use Rattle.group_rounds.specs.Handing.{PacksFor}
 use Rattle.group_rounds.specs.Kernels.{Held}
 use Rattle.group_rounds.specs.Rounds.{AreStarters, PlaysRound, begun_work, next_round}
 use Rattle.group_rounds.proofs.ServesLaws.{keeps_between, round_follows}
@@ -33,11 +34,15 @@ returns g c =
     let after = g.B.Border.state c.play_round-result.new.border in
     let between = c.kernel.invariant.3 (ap (λ (k : Held). k.failed) view ∙ c.requires.running) in
     let limit = subst (λ (k : Held). k.state.round ≤ k.config.rounds) (sym view) c.requires.limit in
+    let tally = g.W.Workers.tally c.args.workers.now in
+    let tally_after = g.W.Workers.tally c.play_round-result.new.workers in
     record {
-      plays = subst (λ (k : Held). PlaysRound k.config.quantum (λ w. round_of w)
-          (λ w answers. begun_work w answers) result k.state before new after
-          (g.W.Workers.tally c.args.workers.now)
-          (g.W.Workers.tally c.play_round-result.new.workers)) view e.plays;
+      plays = subst (λ (k : Held). PlaysRound k.config.quantum (λ w. round_of k.config.scheme w)
+          (λ w answers. begun_work k.config.scheme w answers) result k.state before new after
+          tally tally_after) view
+          (subst (λ (p : PacksFor). PlaysRound i.config.quantum (λ w. round_of p.scheme w)
+          (λ w answers. begun_work p.scheme w answers) result i.state before new after
+          tally tally_after) c.kernel.invariant.2 e.plays);
       round = subst (λ (k : Held). IfOk result (λ end. new.round ≡ next_round end k.state.round))
           view e.keeps.round;
       starters = subst (λ (k : Held). OnOk result (AreStarters k.state before.shim.told

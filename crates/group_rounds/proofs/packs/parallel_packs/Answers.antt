@@ -1,5 +1,6 @@
 use Rattle.std.proofs.Common.{ℕ, List, ◌≡◌, ◌∙◌, ap, sym, subst, length, arith}
 use Rattle.page_store.specs.Store.{Store, IsAway}
+use Rattle.quantum_run.specs.Packs.{empty_pack}
 use Rattle.quantum_run.specs.Shows.{CanRun, Pack}
 use Rattle.proc_table.specs.Tables.{Tables, IsLiveThread}
 use Rattle.kernel_calls.specs.declared.state.State.{State}
@@ -7,7 +8,7 @@ use Rattle.worker_pool.specs.Ran.{AllRan, GrewBy}
 use Rattle.group_rounds.specs.Handing.{AreSet, PutBack, view_of}
 use Rattle.group_rounds.proofs.PacksShow.{can-run}
 use Rattle.group_rounds.proofs.PacksBack.{others, pages-apart, pages-away, threads-live}
-use Rattle.group_rounds.proofs.PacksBack.{rooms, all-runs, sound-again, count-again}
+use Rattle.group_rounds.proofs.PacksBack.{spare-again, all-runs, sound-again, count-again}
 use Rattle.group_rounds.proofs.PacksWork.{work-is}
 use Rattle.group_rounds.proofs.packs.parallel_packs.Goals as goal
 use Rattle.group_rounds.proofs.HandingLaws.{beside}
@@ -111,8 +112,8 @@ returns g c =
       none = home.packs;
       room = omega (arith, c.hand_out.ensures.room, c.run_out.ensures.room, home.packs_room);
       enough = omega (arith, ran.level, h.level, c.hand_out.ensures.less, home.spare);
-      spare = home.all_spare (length s.frames.pages) c.hand_out.ensures.spare
-          (rooms s sound ts live apart new ps qs h ran);
+      spare = home.all_spare (empty_pack (length s.frames.pages)) c.hand_out.ensures.spare
+          (spare-again s sound ts live apart new ps qs h ran);
       spare_room = omega (arith, c.hand_out.ensures.spare_room, home.spare_room);
       stand_in = c.run_out.ensures.stand_in;
     }

@@ -1,8 +1,8 @@
-use Rattle.std.proofs.Common.{ℕ, List, ◌⊎◌, inl, inr, refl, ◌≡◌, ◌∙◌, ap, sym, subst, [], ◌∷◌}
+use Rattle.std.proofs.Common.{List, inl, refl, ◌∙◌, ap, sym, subst, [], ◌∷◌}
 use Rattle.std.proofs.Common.{length, length-append, arith}
 use Rattle.quantum_run.specs.Shows.{Pack}
-use Rattle.group_rounds.specs.Handing.{In, AreSpare}
-use Rattle.group_rounds.proofs.HandingLaws.{in-right, in-either, packs-are, taking-more, take-apart}
+use Rattle.group_rounds.specs.Handing.{In, emptied_pack}
+use Rattle.group_rounds.proofs.HandingLaws.{in-right, spare-more, packs-are, taking-more, take-apart}
 use Rattle.group_rounds.proofs.HandingLaws.{take-away, take-live}
 use Rattle.group_rounds.proofs.packs.take_in.Goals as goal
 
@@ -30,14 +30,6 @@ take_back-requires-clause-live c =
     c.in-Some.ensures.items
     c.requires.away c.requires.apart c.requires.live c.requires.others
 
-spare_one : (n : ℕ) (ys : List Pack) (a b : Pack) → AreSpare n ys → a.room ≡ n
-    → b ≡ record a { pages = [] } → (p : Pack) → In ys p ⊎ In (b ∷ []) p
-    → (p.pages ≡ []) × (p.room ≡ n)
-spare_one n ys a b all room is p (inl h) = all p h
-spare_one n ys a b all room is p (inr (inl e)) =
-    subst (λ (q : Pack). (q.pages ≡ []) × (q.room ≡ n)) (sym is ∙ e) (refl, room)
-spare_one n ys a b all room is p (inr (inr h)) = absurd h
-
 pub loop-pack-preserved : goal.loop-pack-preserved
 loop-pack-preserved c =
     let kept = ap length c.keep.ensures.items
@@ -59,20 +51,18 @@ loop-pack-preserved c =
       pipes = c.take_back.ensures.pipes ∙ c.loop-pack.invariant.pipes;
       futexes = c.take_back.ensures.futexes ∙ c.loop-pack.invariant.futexes;
       spare = omega (arith, kept, popped, before);
-      all_spare = λ n spare rooms p h.
-          spare_one n c.loop-pack.spare.items c.in-Some.pack c.take_back.new.pack
-          (c.loop-pack.invariant.all_spare n spare rooms)
-          (rooms c.in-Some.pack (subst (λ (ps : List Pack). In ps c.in-Some.pack)
+      all_spare = λ first spare rooms.
+          spare-more first c.loop-pack.spare.items _ c.take_back.new.pack c.keep.ensures.items
+          (c.loop-pack.invariant.all_spare first spare rooms)
+          (ap emptied_pack c.take_back.ensures.pack
+          ∙ rooms c.in-Some.pack (subst (λ (ps : List Pack). In ps c.in-Some.pack)
           (sym (packs-are c.args.packs.now.items c.loop-pack.packs.items c.pop.new.self.items
           c.args.state.now.frames c.loop-pack.state.frames c.args.state.now.table
           c.loop-pack.state.table c.in-Some.pack c.loop-pack.invariant.taking
           c.in-Some.ensures.items
           c.requires.away c.requires.apart c.requires.live c.requires.others))
           (in-right c.pop.new.self.items
-          (c.in-Some.pack ∷ c.loop-pack.invariant.taking.done) c.in-Some.pack (inl refl))))
-          c.take_back.ensures.pack p
-          (in-either c.loop-pack.spare.items (c.take_back.new.pack ∷ []) p
-          (subst (λ (ps : List Pack). In ps p) c.keep.ensures.items h));
+          (c.in-Some.pack ∷ c.loop-pack.invariant.taking.done) c.in-Some.pack (inl refl))));
       packs_room = c.in-Some.ensures.capacity ∙ c.loop-pack.invariant.packs_room;
       room = omega (arith, room, more);
     }

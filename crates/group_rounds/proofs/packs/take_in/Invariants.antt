@@ -1,6 +1,6 @@
-use Rattle.std.proofs.Common.{ℕ, ◌≡◌, ◌≤◌, ◌+◌, length, vec_capacity}
+use Rattle.std.proofs.Common.{ℕ, ◌≡◌, ◌≤◌, ◌+◌, [], length, vec_capacity}
 use Rattle.quantum_run.specs.Shows.{Pack}
-use Rattle.group_rounds.specs.Handing.{In, AreSpare}
+use Rattle.group_rounds.specs.Handing.{In, AreSpare, emptied_pack}
 use Rattle.group_rounds.proofs.HandingLaws.{Taking}
 use Rattle.group_rounds.proofs.packs.take_in.Given as goal
 
@@ -13,8 +13,9 @@ invariant-loop-pack l = record {
   futexes : l.state.futexes ≡ l.fn.state.futexes;
   spare : length l.spare.items + length l.packs.items
       ≡ length l.fn.spare.items + length l.fn.packs.items;
-  all_spare : (n : ℕ) → AreSpare n l.fn.spare.items
-      → ((p : Pack) → In l.fn.packs.items p → p.room ≡ n) → AreSpare n l.spare.items;
+  all_spare : (first : Pack) → AreSpare first l.fn.spare.items
+      → ((p : Pack) → In l.fn.packs.items p → emptied_pack (record p { pages = [] }) ≡ first)
+      → AreSpare first l.spare.items;
   packs_room : vec_capacity l.packs ≡ vec_capacity l.fn.packs;
   room : vec_capacity l.fn.spare ≤ vec_capacity l.spare;
 }

@@ -12,11 +12,10 @@ use Rattle.group_rounds.specs.Parts.{work_between}
 use Rattle.group_rounds.specs.Phases.{AreLive}
 use Rattle.group_rounds.specs.Rounds.{end_in}
 use Rattle.group_rounds.specs.declared.round.RoundEnd.TheVariants.{Done, Stalled}
-use Rattle.group_rounds.proofs.PacksRan.{ready-apart}
-use Rattle.group_rounds.proofs.RoundLaws.{begun_done, begun_stalls, grew_so, phase_ran}
+use Rattle.group_rounds.proofs.RoundLaws.{begun_done, begun_stalls, grew_so, phase_ran, ready_still}
 use Rattle.group_rounds.proofs.RoundLaws.{phases_begin, phases_play}
 use Rattle.group_rounds.proofs.ServesLaws.{keeps_still, keeps_then}
-use Rattle.group_rounds.proofs.Sound.{parts_alone, parts_begin}
+use Rattle.group_rounds.proofs.Sound.{parts_begin, parts_behind}
 use Rattle.group_rounds.proofs.Starters.{ready_live}
 use Rattle.group_rounds.proofs.WorkLaws.{for_err}
 use Rattle.group_rounds.proofs.round.play_begun.Goals as goal
@@ -27,7 +26,8 @@ returns-then-live_threads-eq0 g c = record {
   plays = record {
     work = 0;
     plays = record {
-      goes = begun_done c.args.quantum c.args.state.now (g.B.Border.state c.args.border.now)
+      goes = begun_done c.args.packs.now.scheme c.args.quantum c.args.state.now
+          (g.B.Border.state c.args.border.now)
           (sym c.live_threads.ensures ∙ c.if-live_threads-eq0.true);
       stops = tt;
     };
@@ -46,7 +46,7 @@ returns-then-is_empty g c = record {
   plays = record {
     work = 0;
     plays = record {
-      goes = begun_stalls c.args.quantum c.args.state.now
+      goes = begun_stalls c.args.packs.now.scheme c.args.quantum c.args.state.now
           (λ none. c.if-live_threads-eq0.false (c.live_threads.ensures ∙ none))
           (g.B.Border.state c.args.border.now)
           (ap length (sym c.requires.ready)
@@ -69,21 +69,23 @@ set_budgets-requires-clause-live g c =
     subst (AreLive c.args.state.now.table.threads) (sym c.requires.ready)
     (ready_live c.args.state.now.table.threads)
 
-pub run-requires-clause-apart : goal.run-requires-clause-apart
-run-requires-clause-apart g c =
-    λ κs outlive. ready-apart c.args.state.now.table.threads c.args.starters.now c.requires.ready
+pub run-requires-clause-ready : goal.run-requires-clause-ready
+run-requires-clause-ready g c =
+    λ κs outlive. ready_still c.args.quantum c.args.state.now c.set_budgets.new.state
+    c.args.starters.now c.requires.ready c.set_budgets.ensures.sets
 
 -- who is ready has a part, and has it after the parallel phase
 pub finish_round-requires-clause-parts : goal.finish_round-requires-clause-parts
 finish_round-requires-clause-parts g c =
-    parts_alone c.set_budgets.new.state c.run.new.state c.args.starters.now
-    c.set_budgets.ensures.sound c.run.ensures.parts.runs c.args.starters.now
+    parts_behind c.args.packs.now.scheme c.set_budgets.new.state c.run.new.state
+    c.set_budgets.ensures.sound c.run.ensures.phase.runs c.args.starters.now
     (c.set_budgets.ensures.parts c.args.starters.now
     (subst (λ ts. HaveParts ts c.args.state.now) (sym c.requires.ready)
     (parts_begin c.args.state.now c.requires.sound)))
 
 pub returns-clause-plays : goal.returns-clause-plays
 returns-clause-plays g c =
+    let scheme = c.args.packs.now.scheme in
     let q = c.args.quantum in
     let s = c.args.state.now in
     let starters = c.args.starters.now in
@@ -96,19 +98,19 @@ returns-clause-plays g c =
     let work = work_between opening halfway starters in
     record {
       work = work;
-      plays = plays_from q world_ended (λ w. begun w) (λ w. phases w starters)
+      plays = plays_from q world_ended (λ w. begun scheme w) (λ w. phases scheme w starters)
           (λ end w. done (end_in end work w)) c.finish_round.result s c.finish_round.new.state _ _
-          (phases_begin q s live starters c.requires.ready some)
-          (phases_play q s opening halfway starters c.requires.ready c.set_budgets.ensures.sets
-          c.run.ensures.parts.runs c.finish_round.result c.finish_round.new.state _ _
-          (c.finish_round.ensures.plays q work));
-      until = for_err c.finish_round.result (phase_ran q s opening halfway starters
-          c.requires.ready c.set_budgets.ensures.sets c.run.ensures.parts.runs);
+          (phases_begin scheme q s live starters c.requires.ready some)
+          (phases_play scheme q s opening halfway starters c.requires.ready
+          c.set_budgets.ensures.sets c.run.ensures.phase.runs c.finish_round.result
+          c.finish_round.new.state _ _ (c.finish_round.ensures.plays q work));
+      until = for_err c.finish_round.result (phase_ran scheme q s opening halfway starters
+          c.requires.ready c.set_budgets.ensures.sets c.run.ensures.phase.runs);
       grew = grew_so c.finish_round.result _ _ _ c.finish_round.ensures.end c.run.ensures.tally;
     }
 
 pub returns-clause-keeps : goal.returns-clause-keeps
 returns-clause-keeps g c =
     keeps_then c.finish_round.result c.args.state.now c.run.new.state c.finish_round.new.state
-    (stays-then c.run.ensures.parts.round c.set_budgets.ensures.round)
-    (c.run.ensures.parts.count ∙ c.set_budgets.ensures.count) c.finish_round.ensures.keeps
+    (stays-then c.run.ensures.phase.round c.set_budgets.ensures.round)
+    (c.run.ensures.phase.count ∙ c.set_budgets.ensures.count) c.finish_round.ensures.keeps

@@ -21,7 +21,8 @@ returns-then-live_threads-eq0 g c = record {
   plays = record {
     work = 0;
     plays = record {
-      goes = round_done c.args.quantum c.args.state.now (g.B.Border.state c.args.border.now)
+      goes = round_done c.args.packs.now.scheme c.args.quantum c.args.state.now
+          (g.B.Border.state c.args.border.now)
           (sym c.live_threads.ensures ∙ c.if-live_threads-eq0.true);
       stops = tt;
     };
@@ -40,6 +41,7 @@ returns-then-live_threads-eq0 g c = record {
 -- the shim stops at the first question
 pub returns-in-Err : goal.returns-in-Err
 returns-in-Err g c =
+    let scheme = c.args.packs.now.scheme in
     let s = c.args.state.now in
     let live : length (numbers_of is_some s.table.threads) ≢ 0 =
     λ none. c.if-live_threads-eq0.false (c.live_threads.ensures ∙ none) in
@@ -49,10 +51,10 @@ returns-in-Err g c =
         work = 0;
         plays = record {
           goes = tt;
-          stops = round_stops c.args.quantum s c.requires.sound live c.in-Err.stop stopped.reason
-              _ _ stopped.is stopped.stopped;
+          stops = round_stops scheme c.args.quantum s c.requires.sound live c.in-Err.stop
+              stopped.reason _ _ stopped.is stopped.stopped;
         };
-        until = λ o e. ap (begun_work (sent o e (world_of c.args.quantum s)))
+        until = λ o e. ap (begun_work scheme (sent o e (world_of c.args.quantum s)))
             (since_nothing _ _ stopped.stopped.shim.told);
         grew = grew-nothing (g.W.Workers.tally c.args.workers.now);
       };
@@ -109,6 +111,7 @@ play_begun-requires-clause-told g c = λ κs outlive.
 
 pub returns-in-Ok : goal.returns-in-Ok
 returns-in-Ok g c =
+    let scheme = c.args.packs.now.scheme in
     let q = c.args.quantum in
     let s = c.args.state.now in
     let sound = c.requires.sound in
@@ -123,16 +126,17 @@ returns-in-Ok g c =
     record {
       plays = record {
         work = k.work;
-        plays = plays_after q world_ended (λ w. round_of w) (λ w. begun w)
+        plays = plays_after q world_ended (λ w. round_of scheme w) (λ w. begun scheme w)
             (λ end w. done (end_in end k.work w)) result s s' last _ _ _
-            (round_begins q s sound live opened.list s' opened.begins _ _ opened.crosses) k.plays;
-        until = round_until q s s' last opened.list opened.begins (λ w. begun w) _ _ _
-            opened.crosses result k.work k.plays.stops k.until;
+            (round_begins scheme q s sound live opened.list s' opened.begins _ _ opened.crosses)
+            k.plays;
+        until = round_until scheme q s s' last opened.list opened.begins
+            (λ w. begun scheme w) _ _ _ opened.crosses result k.work k.plays.stops k.until;
         grew = k.grew;
       };
       starters = on_ok result _ _
-          (λ end goes. round_began q s sound live opened.list s' opened.begins _ _ opened.crosses
-          c.args.starters.now.items c.open_round.new.starters.items _ last _
+          (λ end goes. round_began scheme q s sound live opened.list s' opened.begins _ _
+          opened.crosses c.args.starters.now.items c.open_round.new.starters.items _ last _
           c.in-Ok.ensures.starters goes) k.plays.goes;
       room = c.open_round.ensures.room;
       packs = e.packs;

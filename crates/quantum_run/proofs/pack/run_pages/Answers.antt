@@ -61,6 +61,7 @@ returns-clause-out c = λ out.
       | else-is_some b ↦ inr (eqb-true floor 0 (sym b.result-is ∙ out))
     ] in
     owning-out c.args.pack.now _ _ c.requires.scheme
+    (ap has_words c.pack.view_is ∙ c.requires.scheme)
     (slice-out k.tid k.pid k.regs.value k.left k.words k.held.items k.own _ c.pack.invariant
     v.frames.now v.table.now c.space-space.result.now.entries c.space-space.ensures.entries
     c.args.pack.now c.pack.view_is (c.requires.can.owning c.requires.scheme)
