@@ -87,7 +87,8 @@ module _ (k : Held) (before told : List Exchange) (o e o1 e1 : Option (List ℕ)
       → RanUntil images config told question output error → HasNoEnd told
   until_no_end question output error ran =
       no_end_before told question (rounds_from (opening images config) config)
-      (rounds_never (config.rounds - (opening images config).rounds) (opening images config) 0)
+      (rounds_never config.scheme (config.rounds - (opening images config).rounds)
+      (opening images config) 0)
       ran.asked
 
   -- it was cut off

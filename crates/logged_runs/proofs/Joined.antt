@@ -6,6 +6,7 @@ use Rattle.std.proofs.Math.Seq.{take-add}
 use Rattle.dos_world.specs.World.{World}
 use Rattle.dos_world.specs.declared.Config.{Config}
 use Rattle.dos_world.specs.declared.Misfit.{Misfit}
+use Rattle.dos_world.specs.declared.Scheme.{Scheme}
 use Rattle.dos_io.specs.declared.exchange.Exchange.{Exchange}
 use Rattle.dos_io.specs.declared.exchange.Exchange.TheVariants.{End}
 use Rattle.elf_image.specs.Image.{Image}
@@ -21,11 +22,11 @@ use Rattle.logged_runs.specs.Replaying.{Replayed, ReplayedUntil, config_of, firs
 use Rattle.logged_runs.specs.Resuming.{ReplayedTo, Resumed, ResumedUntil}
 use Rattle.logged_runs.specs.Runs.{RanUntil, RanWhole}
 
-module _ (images : List Image) (log : Log) (rounds used : ℕ) (reached : World)
+module _ (scheme : Scheme) (images : List Image) (log : Log) (rounds used : ℕ) (reached : World)
     (output error : List ℕ) (work : ℕ)
-    (came : ReplayedTo images log rounds used reached output error work) where
+    (came : ReplayedTo scheme images log rounds used reached output error work) where
   abbrev config : Config
-  config = config_of log.header
+  config = config_of scheme log.header
 
   abbrev first : List Exchange
   first = take used (exchanges log)
@@ -50,7 +51,7 @@ module _ (images : List Image) (log : Log) (rounds used : ℕ) (reached : World)
   few = omega (arith, came.counted, came.allowed)
 
   to_end : (seen : Seen) → Resumed reached config used log seen
-      → Replayed images log (seen_joined first rest output error came.runs.work seen)
+      → Replayed scheme images log (seen_joined first rest output error came.runs.work seen)
   to_end seen resumed =
       let whole = runs_join.ended (opening images config) reached config rounds first rest output
       error seen came.runs counted few resumed in
@@ -60,8 +61,8 @@ module _ (images : List Image) (log : Log) (rounds used : ℕ) (reached : World)
 
   to_misfit : (found : Misfit) (output_then error_then : List ℕ) (work_then : ℕ)
       → ResumedUntil reached config used log found output_then error_then work_then
-      → ReplayedUntil images log found (output ++ output_then) (error ++ error_then)
-      (first_work found.entry images log)
+      → ReplayedUntil scheme images log found (output ++ output_then) (error ++ error_then)
+      (first_work scheme found.entry images log)
   to_misfit found output_then error_then work_then until =
       let whole = runs_join.asked (opening images config) reached config rounds first
       (take until.answered rest) found.asked output error output_then error_then came.runs counted
@@ -84,14 +85,14 @@ module _ (images : List Image) (log : Log) (rounds used : ℕ) (reached : World)
 
 pub replays_join : ReplaysJoin
 replays_join = record {
-  ended = λ images log rounds used reached output error work seen came resumed. (
+  ended = λ scheme images log rounds used reached output error work seen came resumed. (
     came.runs.work,
-    to_end images log rounds used reached output error work came seen resumed,
+    to_end scheme images log rounds used reached output error work came seen resumed,
   );
-  misfits = λ images log rounds used reached output error work found output_then error_then
+  misfits = λ scheme images log rounds used reached output error work found output_then error_then
       work_then came until. (
-        first_work found.entry images log,
-        to_misfit images log rounds used reached output error work came found output_then error_then
-            work_then until,
+        first_work scheme found.entry images log,
+        to_misfit scheme images log rounds used reached output error work came found output_then
+            error_then work_then until,
       );
 }

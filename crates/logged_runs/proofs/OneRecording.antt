@@ -169,12 +169,13 @@ recorded_once plan host asked other_asked after other_after log other seen other
     (one_log log other (a.version ∙ sym b.version) (a.header ∙ sym b.header) same.0, same.1)
 
 pub recording_replays : RecordingsReplay
-recording_replays plan host after log seen recorded is =
-    let config : plan.config ≡ config_of log.header =
-    is ∙ ap config_of (sym recorded.header) in
+recording_replays scheme plan host after log seen recorded is =
+    let config : plan.config ≡ config_of scheme log.header =
+    is ∙ ap (config_of scheme) (sym recorded.header) in
     let ran = subst (λ (c : Config). RanWhole plan.images c (exchanges log) seen) config
     recorded.ran in
-    (ran, fits_have_none 0 (exchanges log) (group plan.images (config_of log.header)) ran.fits)
+    let run = group plan.images (config_of scheme log.header) in
+    (ran, fits_have_none 0 (exchanges log) run ran.fits)
 
 -- ---- where a recorder stops, and where it doesn't
 

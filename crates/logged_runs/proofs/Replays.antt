@@ -5,6 +5,7 @@ use Rattle.std.specs.Prelude.{OnSome}
 use Rattle.dos_world.specs.declared.Ending.{Ending}
 use Rattle.dos_world.specs.declared.Misfit.{Misfit}
 use Rattle.dos_world.specs.declared.Question.{Question}
+use Rattle.dos_world.specs.declared.Scheme.{Scheme}
 use Rattle.dos_io.specs.Exchanges.{answer_of, question_of}
 use Rattle.dos_io.specs.Shims.{HasNoEnd}
 use Rattle.dos_io.specs.declared.exchange.Exchange.{Exchange}
@@ -306,18 +307,19 @@ module _ (k : Held) (before : List Exchange) (p : ReplayState) (o e o1 e1 : Opti
 
   -- ---- from the opening of images, and the whole log that the replayer was made of
 
-  module _ (log : Log) (same : p.log ≡ log) (first : p.start ≡ 0) (images : List Image)
-      (opened : IsOpenedWith k images (config_of log.header)) where
+  module _ (log : Log) (same : p.log ≡ log) (first : p.start ≡ 0) (scheme : Scheme)
+      (images : List Image)
+      (opened : IsOpenedWith k images (config_of scheme log.header)) where
     abbrev opened_world : World
-    opened_world = opening images (config_of log.header)
+    opened_world = opening images (config_of scheme log.header)
 
     abbrev logged : Config
-    logged = config_of log.header
+    logged = config_of scheme log.header
 
     pub replayed : (k' : Held) (ending : Ending) (tally tally' work : ℕ)
         → RanGroup k.config k.state (telling before o e) ending k'.state (telling told o1 e1) work
         → GrewBy tally tally' work → FitsLog log → (HasNoEnd told → ⊥)
-        → (seen : Seen) × Replayed images log seen
+        → (seen : Seen) × Replayed scheme images log seen
         × Ended k' ending seen o e o1 e1 tally tally'
     replayed k' ending tally tally' work run grew fits ended =
         let ran = replayed_from opened_world logged opened.world opened.config_is k' ending tally
@@ -333,7 +335,7 @@ module _ (k : Held) (before : List Exchange) (p : ReplayState) (o e o1 e1 : Opti
         → RanGroup k.config k.state (telling before o e) ending k'.state (telling told o1 e1) work
         → GrewBy tally tally' work → FitsLog log → (HasNoEnd told → ⊥) → (round : ℕ)
         → k'.state.round - 1 < round
-        → (seen : Seen) × Replayed images log seen
+        → (seen : Seen) × Replayed scheme images log seen
         × Ended k' ending seen o e o1 e1 tally tally' × (seen.rounds < round)
     replayed_before k' ending tally tally' work run grew fits ended round less =
         let ran = replayed_short opened_world logged opened.world opened.config_is k' ending tally
@@ -350,7 +352,7 @@ module _ (k : Held) (before : List Exchange) (p : ReplayState) (o e o1 e1 : Opti
         → HasShimCause stop (replayer_state was) (replayer_state p) → IsReplay p
         → (tally tally' : ℕ) → GrewBy tally tally' work_told
         → (output : List ℕ) × (error : List ℕ) × (work : ℕ)
-        × ReplayedUntil images log found output error work
+        × ReplayedUntil scheme images log found output error work
         × Halted o e o1 e1 tally tally' output error work
     replayed_until stop found was is run cause kept tally tally' grew =
         let ran = resumed_until opened_world logged opened.world opened.config_is found
@@ -370,7 +372,7 @@ module _ (k : Held) (before : List Exchange) (p : ReplayState) (o e o1 e1 : Opti
             ran = subst (λ n. RanUntil images logged (take n (exchanges log)) found.asked ran.0
                 ran.1) place
                 (record { asks = whole.ran.asks [] []; asked = whole.ran.asked [] [] });
-            worked = ap (λ n. first_work n images log) (sym place) ∙ whole.worked;
+            worked = ap (λ n. first_work scheme n images log) (sym place) ∙ whole.worked;
           },
           ran.4,
         )
@@ -378,7 +380,7 @@ module _ (k : Held) (before : List Exchange) (p : ReplayState) (o e o1 e1 : Opti
     pub replayed_ahead : CutGroup k.config k.state (telling before o e) (telling told o1 e1)
         → (tally tally' : ℕ) → GrewBy tally tally' work_told
         → (output : List ℕ) × (error : List ℕ) × (work : ℕ)
-        × ReplayedAhead images log output error work
+        × ReplayedAhead scheme images log output error work
         × Halted o e o1 e1 tally tally' output error work
     replayed_ahead cut tally tally' grew =
         let ran = resumed_ahead opened_world logged opened.world opened.config_is cut tally tally'
@@ -406,7 +408,7 @@ module _ (k : Held) (before : List Exchange) (p : ReplayState) (o e o1 e1 : Opti
         → OnSome (shim_stop stop) (StoppedGroup (limited_by limit k.config) k.state
         (telling before o e) (telling told o1 e1) p.asked)
         → HasShimCause stop (replayer_state was) (replayer_state p) → IsReplay p
-        → AsksWithin limit images log found
+        → AsksWithin scheme limit images log found
     asked_within limit stop found was so run cause kept =
         let held : Held = record k { config = limited_by limit k.config } in
         let stopped = subst (λ (s : RunStop). OnSome (shim_stop s)
@@ -423,7 +425,7 @@ module _ (k : Held) (before : List Exchange) (p : ReplayState) (o e o1 e1 : Opti
         let ran = ran_from_until held before told told o e o1 e1 all_new opened_world
         (limited_by limit logged) opened.world (ap (limited_by limit) opened.config_is) p.asked
         stopped in
-        subst (λ (m : Misfit). AsksWithin limit images log m) (sym same_one) (record {
+        subst (λ (m : Misfit). AsksWithin scheme limit images log m) (sym same_one) (record {
           output = stopped.more.output;
           error = stopped.more.error;
           ran = subst (λ es. RanUntil images (limited_by limit logged) es stopped.question
@@ -446,10 +448,10 @@ module _ (k : Held) (before : List Exchange) (p : ReplayState) (o e o1 e1 : Opti
       none : k.state.round - 1 ≡ 0
       none = ap (λ (w : World). w.rounds) opened.world
 
-      to_round : ReplayedTo images log rounds (entries_used p) (world_of logged.quantum s')
-          run.more.output run.more.error (first_work (entries_used p) images log)
+      to_round : ReplayedTo scheme images log rounds (entries_used p) (world_of logged.quantum s')
+          run.more.output run.more.error (first_work scheme (entries_used p) images log)
       to_round = record {
-        runs = from_there (λ v c es. RunsTo rounds v es run.more.output run.more.error
+        runs = from_there (λ v c es. RunsTo c.scheme rounds v es run.more.output run.more.error
             (world_of c.quantum s')) run.runs;
         few = subst (λ (l : Log). entries_used p ≤ length l.entries) same
             (is_next p (omega (arith, first)) run.running);
@@ -459,13 +461,13 @@ module _ (k : Held) (before : List Exchange) (p : ReplayState) (o e o1 e1 : Opti
       }
 
       pub replayed_to : (output : List ℕ) × (error : List ℕ) × (work : ℕ)
-          × ReplayedTo images log rounds (entries_used p) (world_of logged.quantum s') output error
-          work
+          × ReplayedTo scheme images log rounds (entries_used p) (world_of logged.quantum s') output
+          error work
           × Halted o e o1 e1 tally tally' output error work
       replayed_to = (
         run.more.output,
         run.more.error,
-        first_work (entries_used p) images log,
+        first_work scheme (entries_used p) images log,
         to_round,
         record {
           put = record { out_is = run.more.output_is; err_is = run.more.error_is };

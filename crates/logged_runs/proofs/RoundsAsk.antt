@@ -10,6 +10,7 @@ use Rattle.dos_world.specs.Signals.{signalled, ripen}
 use Rattle.dos_world.specs.declared.Question.{Question}
 use Rattle.dos_world.specs.declared.Question.TheVariants.{Signals}
 use Rattle.dos_world.specs.declared.Reason.{Reason}
+use Rattle.dos_world.specs.declared.Scheme.{Scheme}
 use Rattle.dos_world.specs.declared.Reason.TheVariants.{Page, Fault, Service as service_reason}
 use Rattle.dos_io.specs.declared.exchange.Exchange.{Exchange}
 use Rattle.dos_io.specs.declared.exchange.Exchange.TheVariants.{Signals as signals, Input, Clock}
@@ -20,7 +21,7 @@ use Rattle.flat_machine.specs.Alone.{budget_of, emptied}
 use Rattle.round_core.specs.Protocol.{Allows}
 use Rattle.flat_machine.specs.Rest.{Turn, on, over_with, service_done, after_step, settled, turn}
 use Rattle.flat_machine.specs.Rest.{turns, rest_of, rest_if_live, serial_of}
-use Rattle.flat_machine.specs.Round.{RoundEnd, finished, stalled, parallel, with_budgets}
+use Rattle.flat_machine.specs.Round.{RoundEnd, finished, stalled, phase_of, with_budgets}
 use Rattle.flat_machine.specs.Round.{is_none_of}
 use Rattle.flat_machine.specs.Round.{phases, begun, round_of, counted, budgets}
 use Rattle.flat_machine.specs.Round.{went as went_on}
@@ -82,41 +83,43 @@ serial_never w (t ∷ ts) =
     (λ lives. turns_never (budget_of w t) (emptied w t) t) (λ gone. tt))
     (λ next. serial_never next ts)
 
-phases_never : (w : World) (starters : List ℕ) → NeverEnds (phases w starters)
-phases_never w starters =
+phases_never : (scheme : Scheme) (w : World) (starters : List ℕ)
+    → NeverEnds (phases scheme w starters)
+phases_never scheme w starters =
     let opening : World = with_budgets w starters in
-    let halfway : World = parallel opening in
+    let halfway : World = phase_of scheme opening in
     then_never (serial_of halfway starters)
     (λ last. done (went_on (counted last) (budgets opening starters - budgets halfway starters)))
     (serial_never halfway starters) (λ last. tt)
 
-begun_never : (w : World) → NeverEnds (begun w)
-begun_never w =
+begun_never : (scheme : Scheme) (w : World) → NeverEnds (begun scheme w)
+begun_never scheme w =
     cond_both (is_none_of (live_threads w)) (done (finished w))
-    (cond (is_none_of (ready_threads w)) (done (stalled w)) (phases w (ready_threads w)))
+    (cond (is_none_of (ready_threads w)) (done (stalled w)) (phases scheme w (ready_threads w)))
     NeverEnds (λ none. tt)
     (λ some. cond_both (is_none_of (ready_threads w)) (done (stalled w))
-    (phases w (ready_threads w)) NeverEnds (λ none. tt)
-    (λ ready. phases_never w (ready_threads w)))
+    (phases scheme w (ready_threads w)) NeverEnds (λ none. tt)
+    (λ ready. phases_never scheme w (ready_threads w)))
 
-round_never : (w : World) → NeverEnds (round_of w)
-round_never w =
+round_never : (scheme : Scheme) (w : World) → NeverEnds (round_of scheme w)
+round_never scheme w =
     cond_both (is_none_of (live_threads w)) (done (finished w))
     (ask (Signals (w.rounds + 1)) w.output w.error
-    (λ answer. begun (ripen (signalled w (posts_of answer)))))
+    (λ answer. begun scheme (ripen (signalled w (posts_of answer)))))
     NeverEnds (λ none. tt)
-    (λ some. (refl, λ answer is. begun_never (ripen (signalled w (posts_of answer)))))
+    (λ some. (refl, λ answer is. begun_never scheme (ripen (signalled w (posts_of answer)))))
 
 -- ---- a run
 
-pub rounds_never : (count : ℕ) (w : World) (work : ℕ) → NeverEnds (rounds_of count w work)
-rounds_never zero w work = tt
-rounds_never (suc count) w work =
-    then_never (round_of w) (goes_on count work) (round_never w)
-    (by_end (λ next more. rounds_never count next (work + more)))
+pub rounds_never : (scheme : Scheme) (count : ℕ) (w : World) (work : ℕ)
+    → NeverEnds (rounds_of scheme count w work)
+rounds_never scheme zero w work = tt
+rounds_never scheme (suc count) w work =
+    then_never (round_of scheme w) (goes_on scheme count work) (round_never scheme w)
+    (by_end (λ next more. rounds_never scheme count next (work + more)))
   where
-    by_end : ((next : World) (more : ℕ) → NeverEnds (rounds_of count next (work + more)))
-        → (e : RoundEnd) → NeverEnds (goes_on count work e)
+    by_end : ((next : World) (more : ℕ) → NeverEnds (rounds_of scheme count next (work + more)))
+        → (e : RoundEnd) → NeverEnds (goes_on scheme count work e)
     by_end rest (went_on next more) = rest next more
     by_end rest (finished last) = tt
     by_end rest (stalled last) = tt

@@ -2,6 +2,7 @@
 use Rattle.std.specs.Prelude.{◌≡◌, ◌++◌, ℕ, List, Some, None, take}
 use Rattle.dos_world.specs.World.{World}
 use Rattle.dos_world.specs.declared.Misfit.{Misfit}
+use Rattle.dos_world.specs.declared.Scheme.{Scheme}
 use Rattle.elf_image.specs.Image.{Image}
 use Rattle.dos_io.specs.Hosts.{Told}
 use Rattle.dos_io.specs.declared.host_question.HostQuestion.{HostQuestion}
@@ -14,13 +15,14 @@ use Rattle.logged_runs.specs.Recording.{HostSeen, Plan, Recorded, RecordedUntil,
 use Rattle.logged_runs.specs.Replaying.{Replayed, ReplayedUntil, config_of}
 use Rattle.logged_runs.specs.Resuming.{ReplayedTo, Resumed, ResumedUntil}
 
--- Where the header has the configuration, a replay asks exactly what was recorded, shows the same,
--- and finds no misfit.
+-- Where the header has the configuration, a replay in its scheme asks exactly what was recorded,
+-- shows the same, and finds no misfit.
 abbrev pub RecordingsReplay : Type 0
-RecordingsReplay = (plan : Plan) (host host_after : HostSeen) (log : Log) (seen : Seen)
-    → Recorded plan host host_after log seen → plan.config ≡ config_of plan.header
-    → Replayed plan.images log seen
-    × (misfit plan.images (config_of log.header) (exchanges log) ≡ None)
+RecordingsReplay =
+    (scheme : Scheme) (plan : Plan) (host host_after : HostSeen) (log : Log) (seen : Seen)
+    → Recorded plan host host_after log seen → plan.config ≡ config_of scheme plan.header
+    → Replayed scheme plan.images log seen
+    × (misfit plan.images (config_of scheme log.header) (exchanges log) ≡ None)
 
 -- Two recordings of one plan, over hosts that tell the same before, are one.
 abbrev pub RecordedRunsAreOne : Type 0
@@ -40,18 +42,21 @@ FullRunsNeverEnd = (plan : Plan) (host : Told) (asked other_asked : List HostQue
     → ⊥
 
 -- A replay as far as a round, and a run that goes on from there by what is left of the log, are the
--- replay.
+-- replay, in each scheme.
 pub record ReplaysJoin : Type 0 where
   -- to its end
-  pub ended : (images : List Image) (log : Log) (rounds used : ℕ) (reached : World)
-      (output error : List ℕ) (work : ℕ) (seen : Seen)
-      → ReplayedTo images log rounds used reached output error work
-      → Resumed reached (config_of log.header) used log seen → (earlier : ℕ)
-      × Replayed images log (seen_joined (take used (exchanges log)) (exchanges_from used log)
-      output error earlier seen)
+  pub ended : (scheme : Scheme) (images : List Image) (log : Log) (rounds used : ℕ)
+      (reached : World) (output error : List ℕ) (work : ℕ) (seen : Seen)
+      → ReplayedTo scheme images log rounds used reached output error work
+      → Resumed reached (config_of scheme log.header) used log seen → (earlier : ℕ)
+      × Replayed scheme images log (seen_joined (take used (exchanges log))
+      (exchanges_from used log) output error earlier seen)
   -- to the misfit
-  pub misfits : (images : List Image) (log : Log) (rounds used : ℕ) (reached : World)
-      (output error : List ℕ) (work : ℕ) (found : Misfit) (output_then error_then : List ℕ)
-      (work_then : ℕ) → ReplayedTo images log rounds used reached output error work
-      → ResumedUntil reached (config_of log.header) used log found output_then error_then work_then
-      → (all : ℕ) × ReplayedUntil images log found (output ++ output_then) (error ++ error_then) all
+  pub misfits : (scheme : Scheme) (images : List Image) (log : Log) (rounds used : ℕ)
+      (reached : World) (output error : List ℕ) (work : ℕ) (found : Misfit)
+      (output_then error_then : List ℕ) (work_then : ℕ)
+      → ReplayedTo scheme images log rounds used reached output error work
+      → ResumedUntil reached (config_of scheme log.header) used log found output_then error_then
+      work_then
+      → (all : ℕ) × ReplayedUntil scheme images log found (output ++ output_then)
+      (error ++ error_then) all

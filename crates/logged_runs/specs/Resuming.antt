@@ -3,6 +3,7 @@ use Rattle.std.specs.Prelude.{◌≡◌, ◌≤◌, ◌<◌, ◌+◌, ℕ, Optio
 use Rattle.dos_world.specs.World.{World}
 use Rattle.dos_world.specs.declared.Config.{Config}
 use Rattle.dos_world.specs.declared.Misfit.{Misfit}
+use Rattle.dos_world.specs.declared.Scheme.{Scheme}
 use Rattle.dos_io.specs.Exchanges.{answer_of}
 use Rattle.elf_image.specs.Image.{Image}
 use Rattle.flat_machine.specs.Machine.{Seen, run_from}
@@ -21,32 +22,35 @@ use Rattle.logged_runs.specs.declared.resuming.Arrived.TheVariants.{AtRound, AtI
 
 -- The run of these images, over so many of the log's exchanges, of which none is the end, has come
 -- so many rounds far, to this world, sent these bytes, and worked so much.
-pub record ReplayedTo (images : List Image) (log : Log) (rounds used : ℕ) (reached : World)
-    (output error : List ℕ) (work : ℕ) : Type 0 where
-  pub runs : RunsTo rounds (opening images (config_of log.header)) (take used (exchanges log))
-      output error reached
+pub record ReplayedTo (scheme : Scheme) (images : List Image) (log : Log) (rounds used : ℕ)
+    (reached : World) (output error : List ℕ) (work : ℕ) : Type 0 where
+  pub runs : RunsTo scheme rounds (opening images (config_of scheme log.header))
+      (take used (exchanges log)) output error reached
   pub few : used ≤ length log.entries
   pub counted : reached.rounds ≡ rounds
   pub allowed : rounds ≤ log.header.rounds
-  pub worked : first_work used images log ≡ work
+  pub worked : first_work scheme used images log ≡ work
 
 -- A run that has no more rounds than so many comes to a misfit of the log, too.
-pub record AsksWithin (limit : ℕ) (images : List Image) (log : Log) (found : Misfit) : Type 0 where
+pub record AsksWithin (scheme : Scheme) (limit : ℕ) (images : List Image) (log : Log)
+    (found : Misfit) : Type 0 where
   pub output : List ℕ
   pub error : List ℕ
-  pub ran : RanUntil images (limited_by limit (config_of log.header))
+  pub ran : RanUntil images (limited_by limit (config_of scheme log.header))
       (take found.entry (exchanges log)) found.asked output error
 
 -- What a replay leaves that was to come to a round, by how far it came: to the round, in the world
 -- that the kernel is in; or to its end, which was before.
-abbrev pub Arrives : Arrived → List Image → Log → (round : ℕ) → Held
+abbrev pub Arrives : Scheme → Arrived → List Image → Log → (round : ℕ) → Held
     → (out err out_after err_after : Option (List ℕ)) → (tally tally_after : ℕ) → Type 0
-Arrives (AtRound used) images log round kernel out err out_after err_after tally tally_after =
+Arrives scheme (AtRound used) images log round kernel out err out_after err_after tally
+    tally_after =
     (output : List ℕ) × (error : List ℕ) × (work : ℕ)
-    × ReplayedTo images log round used (kernel_world kernel) output error work
+    × ReplayedTo scheme images log round used (kernel_world kernel) output error work
     × Halted out err out_after err_after tally tally_after output error work
-Arrives (AtItsEnd ending) images log round kernel out err out_after err_after tally tally_after =
-    (seen : Seen) × Replayed images log seen
+Arrives scheme (AtItsEnd ending) images log round kernel out err out_after err_after tally
+    tally_after =
+    (seen : Seen) × Replayed scheme images log seen
     × Ended kernel ending seen out err out_after err_after tally tally_after
     × (seen.rounds < round)
 

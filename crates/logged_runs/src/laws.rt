@@ -2,7 +2,8 @@
 ghost use Rattle.logged_runs.specs.Laws.{FullRunsNeverEnd, RecordedRunsAreOne, RecordingsReplay};
 ghost use Rattle.logged_runs.specs.Laws.{ReplaysJoin};
 
-/// The log of a recorded run fits its images, and its replay shows what the run showed.
+/// The log of a recorded run fits its images, and its replay in the scheme of that run shows what
+/// the run showed.
 pub fn recordings_replay()
     ensures { RecordingsReplay }
 {}
@@ -20,7 +21,8 @@ pub fn full_runs_never_end()
 {}
 
 /// A replay as far as a round, and from there by what is left of the log to its end or its misfit,
-/// is the replay: it shows the same, once one has shown what the other shows behind it.
+/// is the replay: it shows the same, once one has shown what the other shows behind it. So it is in
+/// each scheme.
 pub fn replays_join()
     ensures { ReplaysJoin }
 {}

@@ -2,6 +2,7 @@
 ghost use Rattle.std.specs.Prelude.{◌≡◌, ◌≢◌, ◌≤◌, ℕ, List, Err, false, IfOk, IfErr, IsErrOf};
 ghost use Rattle.std.specs.Prelude.{OnErr};
 ghost use Rattle.dos_world.specs.declared.Misfit.{Misfit};
+ghost use Rattle.dos_world.specs.declared.Scheme.{Scheme};
 ghost use Rattle.elf_image.specs.Image.{Image};
 ghost use Rattle.flat_machine.specs.Machine.{Seen};
 ghost use Rattle.kernel_calls.specs.StateWorld.{HasSinkCause};
@@ -20,7 +21,8 @@ use log_text::Log;
 use shim_log::Replayer;
 use worker_pool::Workers;
 
-/// Runs a group that was opened by the answers of a log, of which it asks nothing else.
+/// Runs a group that was opened by the answers of a log, of which it asks nothing else, in the
+/// scheme of its kernel: a log names none.
 ///
 /// It stops where the log has an exchange of another question than the run asks, by that misfit, or
 /// where an output fails, and by nothing else: it takes no memory. The workers' tally grows by the
@@ -33,21 +35,21 @@ pub fn replay_group<O: Sink, E: Sink, W: Workers>(
     workers: &mut W,
 ) -> Result<Ending, RunStop>
     requires running { kernel.old.failed ≡ false }
-    ensures ran { IfOk result (λ ending. (images : List Image)
-        → IsOpenedWith kernel.old images (config_of log.header)
-        → (seen : Seen) × Replayed images log seen
+    ensures ran { IfOk result (λ ending. (scheme : Scheme) (images : List Image)
+        → IsOpenedWith kernel.old images (config_of scheme log.header)
+        → (seen : Seen) × Replayed scheme images log seen
         × Ended kernel.new ending seen (O.told out.old) (E.told err.old) (O.told out.new)
         (E.told err.new) (W.tally workers.old) (W.tally workers.new)) }
-    ensures misfit { (found : Misfit) → IsErrOf result (stops.Misfit found) → (images : List Image)
-        → IsOpenedWith kernel.old images (config_of log.header)
+    ensures misfit { (found : Misfit) → IsErrOf result (stops.Misfit found) → (scheme : Scheme)
+        (images : List Image) → IsOpenedWith kernel.old images (config_of scheme log.header)
         → (output : List ℕ) × (error : List ℕ) × (work : ℕ)
-        × ReplayedUntil images log found output error work
+        × ReplayedUntil scheme images log found output error work
         × Halted (O.told out.old) (E.told err.old) (O.told out.new) (E.told err.new)
         (W.tally workers.old) (W.tally workers.new) output error work }
-    ensures cut { OnErr result ((images : List Image)
-        → IsOpenedWith kernel.old images (config_of log.header)
+    ensures cut { OnErr result ((scheme : Scheme) (images : List Image)
+        → IsOpenedWith kernel.old images (config_of scheme log.header)
         → (output : List ℕ) × (error : List ℕ) × (work : ℕ)
-        × ReplayedAhead images log output error work
+        × ReplayedAhead scheme images log output error work
         × Halted (O.told out.old) (E.told err.old) (O.told out.new) (E.told err.new)
         (W.tally workers.old) (W.tally workers.new) output error work) }
     ensures only { IfErr result StopsReplay }

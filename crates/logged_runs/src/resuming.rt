@@ -2,6 +2,7 @@
 ghost use Rattle.std.specs.Prelude.{◌≡◌, ◌≢◌, ◌≤◌, ◌<◌, ℕ, List, Err, false, IfOk, IfErr, IsErrOf};
 ghost use Rattle.std.specs.Prelude.{OnErr, OnOk, length};
 ghost use Rattle.dos_world.specs.declared.Misfit.{Misfit};
+ghost use Rattle.dos_world.specs.declared.Scheme.{Scheme};
 ghost use Rattle.elf_image.specs.Image.{Image};
 ghost use Rattle.flat_machine.specs.Machine.{Seen};
 ghost use Rattle.group_rounds.specs.Kernels.{IsBetweenRounds, kernel_world};
@@ -35,9 +36,10 @@ pub enum Arrived {
     AtItsEnd(Ending),
 }
 
-/// Runs a group that was opened by the answers of a log until so many rounds have been run, or to
-/// its end where that comes before. It stops as a whole replay does, and takes no memory; at the
-/// log's misfit where a run that has no more rounds than these comes to it.
+/// Runs a group that was opened by the answers of a log, in the scheme of its kernel, until so many
+/// rounds have been run, or to its end where that comes before. It stops as a whole replay does,
+/// and takes no memory; at the log's misfit where a run that has no more rounds than these comes to
+/// it.
 pub fn replay_to<O: Sink, E: Sink, W: Workers>(
     kernel: &mut Kernel,
     log: Log,
@@ -48,21 +50,21 @@ pub fn replay_to<O: Sink, E: Sink, W: Workers>(
 ) -> Result<Arrived, RunStop>
     requires running { kernel.old.failed ≡ false }
     requires fresh { kernel.old.state.round ≡ 1 }
-    ensures arrived { IfOk result (λ x. (images : List Image)
-        → IsOpenedWith kernel.old images (config_of log.header)
-        → Arrives x images log round kernel.new (O.told out.old) (E.told err.old) (O.told out.new)
-        (E.told err.new) (W.tally workers.old) (W.tally workers.new)) }
-    ensures misfit { (found : Misfit) → IsErrOf result (stops.Misfit found) → (images : List Image)
-        → IsOpenedWith kernel.old images (config_of log.header)
+    ensures arrived { IfOk result (λ x. (scheme : Scheme) (images : List Image)
+        → IsOpenedWith kernel.old images (config_of scheme log.header)
+        → Arrives scheme x images log round kernel.new (O.told out.old) (E.told err.old)
+        (O.told out.new) (E.told err.new) (W.tally workers.old) (W.tally workers.new)) }
+    ensures misfit { (found : Misfit) → IsErrOf result (stops.Misfit found) → (scheme : Scheme)
+        (images : List Image) → IsOpenedWith kernel.old images (config_of scheme log.header)
         → (output : List ℕ) × (error : List ℕ) × (work : ℕ)
-        × ReplayedUntil images log found output error work
+        × ReplayedUntil scheme images log found output error work
         × Halted (O.told out.old) (E.told err.old) (O.told out.new) (E.told err.new)
         (W.tally workers.old) (W.tally workers.new) output error work
-        × AsksWithin round images log found }
-    ensures cut { OnErr result ((images : List Image)
-        → IsOpenedWith kernel.old images (config_of log.header)
+        × AsksWithin scheme round images log found }
+    ensures cut { OnErr result ((scheme : Scheme) (images : List Image)
+        → IsOpenedWith kernel.old images (config_of scheme log.header)
         → (output : List ℕ) × (error : List ℕ) × (work : ℕ)
-        × ReplayedAhead images log output error work
+        × ReplayedAhead scheme images log output error work
         × Halted (O.told out.old) (E.told err.old) (O.told out.new) (E.told err.new)
         (W.tally workers.old) (W.tally workers.new) output error work) }
     ensures only { IfErr result StopsReplay }
@@ -90,8 +92,9 @@ pub fn replay_to<O: Sink, E: Sink, W: Workers>(
     }
 }
 
-/// Runs a group on, from wherever it stands between two rounds, by the answers of a log of which so
-/// many exchanges were used, to its end. It stops as a whole replay does, and takes no memory.
+/// Runs a group on, from wherever it stands between two rounds, in the scheme of its kernel, by the
+/// answers of a log of which so many exchanges were used, to its end. It stops as a whole replay
+/// does, and takes no memory.
 pub fn resume_group<O: Sink, E: Sink, W: Workers>(
     kernel: &mut Kernel,
     log: Log,

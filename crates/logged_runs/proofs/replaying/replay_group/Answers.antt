@@ -18,11 +18,11 @@ pub returns-in-Ok : goal.returns-in-Ok
 returns-in-Ok g c =
     let run = c.in-Ok.ensures in
     record {
-      ran = λ images opened. replayed c.args.kernel.now (replayer_state c.new-shim.result).told
-          c.run_group.new.shim _ _ _ _ (nothing_told _ _ c.new-shim.ensures) c.args.log
+      ran = λ scheme images opened. replayed c.args.kernel.now
+          (replayer_state c.new-shim.result).told c.run_group.new.shim _ _ _ _ (nothing_told _ _ c.new-shim.ensures) c.args.log
           (same_log _ _ _ c.new-shim.ensures run.follows)
-          (from_first _ _ _ c.new-shim.ensures run.follows) images opened c.run_group.new.kernel
-          c.in-Ok.ending _ _ run.runs.0 run.runs.1 run.runs.2 c.len-exchanges.ensures.fits
+          (from_first _ _ _ c.new-shim.ensures run.follows) scheme images opened
+          c.run_group.new.kernel c.in-Ok.ending _ _ run.runs.0 run.runs.1 run.runs.2 c.len-exchanges.ensures.fits
           (is_told _ _ _ run.told_end);
       misfit = λ found is. absurd (not_stopped _ _ is);
       cut = tt;
@@ -43,13 +43,13 @@ returns g c =
     let first = from_first _ _ _ c.new-shim.ensures run.follows in
     record {
       ran = tt;
-      misfit = λ found is images opened. replayed_until c.args.kernel.now
+      misfit = λ found is scheme images opened. replayed_until c.args.kernel.now
           (replayer_state c.new-shim.result).told c.run_group.new.shim _ _ _ _ told c.args.log log
-          first images opened c.in-Err.stop found c.new-shim.result (this_stop _ _ _ is) run.asks
-          run.causes.shim c.look.ensures _ _ run.grew;
-      cut = λ images opened. replayed_ahead c.args.kernel.now
+          first scheme images opened c.in-Err.stop found c.new-shim.result (this_stop _ _ _ is)
+          run.asks run.causes.shim c.look.ensures _ _ run.grew;
+      cut = λ scheme images opened. replayed_ahead c.args.kernel.now
           (replayer_state c.new-shim.result).told c.run_group.new.shim _ _ _ _ told c.args.log log
-          first images opened run.cut _ _ run.grew;
+          first scheme images opened run.cut _ _ run.grew;
       only = only c.args.kernel.now (replayer_state c.new-shim.result).told c.run_group.new.shim
           _ _ _ _ told c.in-Err.stop run.asks c.new-shim.result run.causes.shim c.look.ensures;
       sinks = run.causes.sinks;

@@ -45,7 +45,7 @@ module _ (config : Config) (round : ℕ) (old : State) (before : BorderState) (n
       one_ending x y same = cc
 
 pub returns-in-Ok-Round-clause-arrived : goal.returns-in-Ok-Round-clause-arrived
-returns-in-Ok-Round-clause-arrived g c = λ images opened.
+returns-in-Ok-Round-clause-arrived g c = λ scheme images opened.
     let log = c.args.log in
     let s = c.args.kernel.now.state in
     let k' = c.run_to.new.kernel in
@@ -57,19 +57,19 @@ returns-in-Ok-Round-clause-arrived g c = λ images opened.
     let run = replayed_to c.args.kernel.now (replayer_state c.new-shim.result).told
     c.run_to.new.shim _ _ _ _ (nothing_told _ _ c.new-shim.ensures) log
     (same_log _ _ _ c.new-shim.ensures c.run_to.ensures.follows)
-    (from_first _ _ _ c.new-shim.ensures c.run_to.ensures.follows) images opened
+    (from_first _ _ _ c.new-shim.ensures c.run_to.ensures.follows) scheme images opened
     (c.args.round - (s.round - 1)) k'.state _ _ reached.ran (omega (arith, c.requires.fresh))
     (omega (arith, limit, within)) in (
       run.0,
       run.1,
       run.2,
-      subst (λ n. ReplayedTo images log n c.used.result (world_of k'.config.quantum k'.state) run.0
-          run.1 run.2)
+      subst (λ n. ReplayedTo scheme images log n c.used.result (world_of k'.config.quantum k'.state)
+          run.0 run.1 run.2)
           (let n : c.args.round - (s.round - 1) ≡ c.args.round =
           omega (arith, c.requires.fresh) in n)
-          (subst (λ used. ReplayedTo images log (c.args.round - (s.round - 1)) used
+          (subst (λ used. ReplayedTo scheme images log (c.args.round - (s.round - 1)) used
           (world_of k'.config.quantum k'.state) run.0 run.1 run.2) (sym c.used.ensures)
-          (subst (λ (config : Config). ReplayedTo images log (c.args.round - (s.round - 1))
+          (subst (λ (config : Config). ReplayedTo scheme images log (c.args.round - (s.round - 1))
           (entries_used c.run_to.new.shim) (world_of config.quantum k'.state) run.0 run.1 run.2)
           (sym given) run.3)),
       run.4,
@@ -98,25 +98,25 @@ returns-in-Ok-Round-clause-err_later g c =
     omega (arith, same)
 
 pub returns-in-Ok-Ended-clause-arrived : goal.returns-in-Ok-Ended-clause-arrived
-returns-in-Ok-Ended-clause-arrived g c = λ images opened.
+returns-in-Ok-Ended-clause-arrived g c = λ scheme images opened.
     let e = at_end _ _ _ _ _ _ _ _ _ c.in-Ok-Ended.field-0 c.in-Ok-Ended.ending
     c.in-Ok-Ended.field-0-is c.in-Ok-Ended.ensures.reaches in
     let run = e.0.runs in
     replayed_before c.args.kernel.now (replayer_state c.new-shim.result).told
     c.run_to.new.shim _ _ _ _ (nothing_told _ _ c.new-shim.ensures) c.args.log
     (same_log _ _ _ c.new-shim.ensures c.run_to.ensures.follows)
-    (from_first _ _ _ c.new-shim.ensures c.run_to.ensures.follows) images opened
+    (from_first _ _ _ c.new-shim.ensures c.run_to.ensures.follows) scheme images opened
     c.run_to.new.kernel c.in-Ok-Ended.ending _ _ run.runs.0 run.runs.1 run.runs.2
     c.len-exchanges.ensures.fits (is_told _ _ _ run.told_end) c.args.round e.1
 
 pub returns-clause-misfit : goal.returns-clause-misfit
-returns-clause-misfit g c = λ found is images opened.
+returns-clause-misfit g c = λ found is scheme images opened.
     let log = same_log _ _ _ c.new-shim.ensures c.run_to.ensures.follows in
     let told = nothing_told _ _ c.new-shim.ensures in
     let first = from_first _ _ _ c.new-shim.ensures c.run_to.ensures.follows in
     let run = c.in-Err.ensures.reaches in
     let until = replayed_until c.args.kernel.now (replayer_state c.new-shim.result).told
-    c.run_to.new.shim _ _ _ _ told c.args.log log first images opened c.in-Err.stop found
+    c.run_to.new.shim _ _ _ _ told c.args.log log first scheme images opened c.in-Err.stop found
     c.new-shim.result (this_stop _ _ _ is) run.runs.asks run.runs.causes.shim c.look.ensures _ _
     run.runs.grew in (
       until.0,
@@ -125,7 +125,7 @@ returns-clause-misfit g c = λ found is images opened.
       until.3,
       until.4,
       asked_within c.args.kernel.now (replayer_state c.new-shim.result).told c.run_to.new.shim _ _ _
-          _ told c.args.log log first images opened c.args.round c.in-Err.stop found
+          _ told c.args.log log first scheme images opened c.args.round c.in-Err.stop found
           c.new-shim.result (this_stop _ _ _ is) run.limited.asks run.limited.causes.shim
           c.look.ensures,
     )
