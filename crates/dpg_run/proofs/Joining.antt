@@ -8,6 +8,7 @@ use Rattle.dos_world.specs.Play.{Answer, Outcome, Play, done, ask, asks, gives, 
 use Rattle.dos_world.specs.Play.{◌>>=◌}
 use Rattle.dos_world.specs.declared.Config.{Config}
 use Rattle.dos_world.specs.declared.Question.{Question}
+use Rattle.dos_world.specs.declared.Scheme.{Scheme}
 use Rattle.dos_io.specs.Exchanges.{answer_of, question_of}
 use Rattle.dos_io.specs.declared.exchange.Exchange.{Exchange}
 use Rattle.flat_machine.specs.Machine.{Finish, Ran, Seen, at_limit, ends, machine_from, needs}
@@ -92,27 +93,32 @@ then_alike k (ask question output error next) f g h =
         asked (answer ∷ answers) = ap (λ qs. question ∷ qs) ((each answer).asked answers)
 
 -- what follows a round, with so many left and after so much work
-abbrev behind : ℕ → ℕ → RoundEnd → Play Finish
-behind left work (went next more) = rounds_of left next (work + more)
-behind left work (finished last) = done (record { ending = Done; world = last; work = work })
-behind left work (stalled last) = done (record { ending = Stalled; world = last; work = work })
+abbrev behind : Scheme → ℕ → ℕ → RoundEnd → Play Finish
+behind scheme left work (went next more) = rounds_of scheme left next (work + more)
+behind scheme left work (finished last) =
+    done (record { ending = Done; world = last; work = work })
+behind scheme left work (stalled last) =
+    done (record { ending = Stalled; world = last; work = work })
 
-behind_alike : (k left j : ℕ)
-    → ((w : World) (i : ℕ) → AreAlike k (rounds_of left w (k + i)) (rounds_of left w i))
-    → (end : RoundEnd) → AreAlike k (behind left (k + j) end) (behind left j end)
-behind_alike k left j later (went next more) =
-    subst (λ n. AreAlike k (rounds_of left next n) (rounds_of left next (j + more)))
+behind_alike : (scheme : Scheme) (k left j : ℕ)
+    → ((w : World) (i : ℕ)
+    → AreAlike k (rounds_of scheme left w (k + i)) (rounds_of scheme left w i))
+    → (end : RoundEnd) → AreAlike k (behind scheme left (k + j) end) (behind scheme left j end)
+behind_alike scheme k left j later (went next more) =
+    subst (λ n. AreAlike k (rounds_of scheme left next n)
+    (rounds_of scheme left next (j + more)))
     (let n : k + (j + more) ≡ k + j + more = omega arith in n) (later next (j + more))
-behind_alike k left j later (finished last) =
+behind_alike scheme k left j later (finished last) =
     done_alike k (record { ending = Done; world = last; work = j })
-behind_alike k left j later (stalled last) =
+behind_alike scheme k left j later (stalled last) =
     done_alike k (record { ending = Stalled; world = last; work = j })
 
-rounds_alike : (k n : ℕ) (w : World) (j : ℕ) → AreAlike k (rounds_of n w (k + j)) (rounds_of n w j)
-rounds_alike k zero w j = done_alike k (at_limit w j)
-rounds_alike k (suc n) w j =
-    then_alike k (round_of w) (behind n (k + j)) (behind n j)
-    (behind_alike k n j (rounds_alike k n))
+rounds_alike : (scheme : Scheme) (k n : ℕ) (w : World) (j : ℕ)
+    → AreAlike k (rounds_of scheme n w (k + j)) (rounds_of scheme n w j)
+rounds_alike scheme k zero w j = done_alike k (at_limit w j)
+rounds_alike scheme k (suc n) w j =
+    then_alike k (round_of scheme w) (behind scheme n (k + j)) (behind scheme n j)
+    (behind_alike scheme k n j (rounds_alike scheme k n))
 
 -- ---- what is seen
 
@@ -133,7 +139,7 @@ ended_by asked (asks question output error) s is = absurd cc
 
 -- the run from the first world, behind any bytes, over the first exchanges
 module _ (w last : World) (config : Config) (rounds : ℕ) (first : List Exchange)
-    (output error : List ℕ) (ran : RunsTo rounds w first output error last)
+    (output error : List ℕ) (ran : RunsTo config.scheme rounds w first output error last)
     (counted : last.rounds ≡ w.rounds + rounds) (few : last.rounds ≤ config.rounds)
     (o e : List ℕ) where
   abbrev left : ℕ
@@ -142,21 +148,23 @@ module _ (w last : World) (config : Config) (rounds : ℕ) (first : List Exchang
   abbrev there : World
   there = sent (o ++ output) (e ++ error) last
 
-  goes : GoesOn first (rounds_from (sent o e w) config) (rounds_of left there (ran.work + 0))
-  goes = subst (λ n. GoesOn first (rounds_of n (sent o e w) 0) (rounds_of left there
-      (ran.work + 0)))
+  goes : GoesOn first (rounds_from (sent o e w) config)
+      (rounds_of config.scheme left there (ran.work + 0))
+  goes = subst (λ n. GoesOn first (rounds_of config.scheme n (sent o e w) 0)
+      (rounds_of config.scheme left there (ran.work + 0)))
       (let n : rounds + left ≡ config.rounds - w.rounds = omega (arith, counted, few) in n)
-      (subst (λ n. GoesOn first (rounds_of (rounds + left) (sent o e w) 0)
-      (rounds_of left there n))
+      (subst (λ n. GoesOn first (rounds_of config.scheme (rounds + left) (sent o e w) 0)
+      (rounds_of config.scheme left there n))
       (let n : 0 + ran.work ≡ ran.work + 0 = omega arith in n) (ran.goes o e left 0))
 
   goes_told : GoesOn first (run_from (sent o e w) config)
-      (rounds_of left there (ran.work + 0) >>= told_end)
+      (rounds_of config.scheme left there (ran.work + 0) >>= told_end)
   goes_told = goes-then first (rounds_from (sent o e w) config)
-      (rounds_of left there (ran.work + 0)) told_end goes
+      (rounds_of config.scheme left there (ran.work + 0)) told_end goes
 
-  alike : AreAlike ran.work (rounds_of left there (ran.work + 0)) (rounds_of left there 0)
-  alike = rounds_alike ran.work left there 0
+  alike : AreAlike ran.work (rounds_of config.scheme left there (ran.work + 0))
+      (rounds_of config.scheme left there 0)
+  alike = rounds_alike config.scheme ran.work left there 0
 
   -- what is asked behind them
   asked_then : (second : List Exchange) (asked : List Question)
@@ -167,7 +175,7 @@ module _ (w last : World) (config : Config) (rounds : ℕ) (first : List Exchang
       ap (λ answers. questions answers (run_from (sent o e w) config))
       (map-append answer_of first second)
       ∙ goes-questions_more first (map answer_of second) (run_from (sent o e w) config)
-      (rounds_of left there (ran.work + 0) >>= told_end) goes_told
+      (rounds_of config.scheme left there (ran.work + 0) >>= told_end) goes_told
       ∙ ap (λ qs. map question_of first ++ qs) (alike.asked (map answer_of second) ∙ is)
       ∙ sym (append_assoc (map question_of first) (map question_of second) asked)
       ∙ ap (λ qs. qs ++ asked) (sym (map-append question_of first second))
@@ -182,7 +190,7 @@ module _ (w last : World) (config : Config) (rounds : ℕ) (first : List Exchang
       ap (λ answers. over answers (run_from (sent o e w) config))
       (map-append answer_of first second)
       ∙ goes-over_more first (map answer_of second) (run_from (sent o e w) config)
-      (rounds_of left there (ran.work + 0) >>= told_end) goes_told
+      (rounds_of config.scheme left there (ran.work + 0) >>= told_end) goes_told
       ∙ alike.over_told (map answer_of second) ∙ ap (behind_work ran.work) is
       ∙ ap₂ (λ x y. asks question x y) (append_assoc o output output_then)
       (append_assoc e error error_then)
@@ -193,14 +201,15 @@ module _ (w last : World) (config : Config) (rounds : ℕ) (first : List Exchang
       ≡ misfit_from (n + length first) rest (run_from there config)
   misfit_joins n rest =
       misfit_behind n (n + length first) first rest (run_from (sent o e w) config)
-      (rounds_of left there (ran.work + 0) >>= told_end) refl goes_told
+      (rounds_of config.scheme left there (ran.work + 0) >>= told_end) refl goes_told
       ∙ misfit_by_questions (n + length first) rest
-      (rounds_of left there (ran.work + 0) >>= told_end) (run_from there config) alike.asked
+      (rounds_of config.scheme left there (ran.work + 0) >>= told_end) (run_from there config)
+      alike.asked
 
 -- to a question
 module _ (w last : World) (config : Config) (rounds : ℕ) (first second : List Exchange)
     (question : Question) (output error output_then error_then : List ℕ)
-    (ran : RunsTo rounds w first output error last)
+    (ran : RunsTo config.scheme rounds w first output error last)
     (counted : last.rounds ≡ w.rounds + rounds) (few : last.rounds ≤ config.rounds)
     (stops : RunsToQuestion last config second question output_then error_then) where
   pub questions_join : RunsToQuestion w config (first ++ second) question (output ++ output_then)
@@ -214,7 +223,7 @@ module _ (w last : World) (config : Config) (rounds : ℕ) (first second : List 
 
 -- to the end
 module _ (w last : World) (config : Config) (rounds : ℕ) (first second : List Exchange)
-    (output error : List ℕ) (s : Seen) (ran : RunsTo rounds w first output error last)
+    (output error : List ℕ) (s : Seen) (ran : RunsTo config.scheme rounds w first output error last)
     (counted : last.rounds ≡ w.rounds + rounds) (few : last.rounds ≤ config.rounds)
     (ended : RunsToItsEnd last config second s) where
   abbrev all : List Answer
@@ -231,7 +240,7 @@ module _ (w last : World) (config : Config) (rounds : ℕ) (first second : List 
         ∙ append-nil (map question_of (first ++ second))
 
     abbrev rest_of : ℕ → Play Finish
-    rest_of work = rounds_of (config.rounds - last.rounds) from work
+    rest_of work = rounds_of config.scheme (config.rounds - last.rounds) from work
 
     one : HasEnded (over (map answer_of second) (rest_of 0))
         (questions (map answer_of second) (run_from from config))

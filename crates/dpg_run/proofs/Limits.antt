@@ -1,5 +1,6 @@
 -- A run has no more rounds than its configuration allows.
-use Rattle.std.proofs.Common.{ℕ, ◌+◌, ◌-◌, ◌≤◌, ◌≡◌, refl, ap, subst, List, arith}
+use Rattle.std.proofs.Common.{ℕ, ◌+◌, ◌-◌, ◌≤◌, ◌≡◌, refl, sym, ap, subst, List}
+use Rattle.std.proofs.Common.{arith}
 use Rattle.dos_world.specs.World.{World}
 use Rattle.dos_world.specs.Play.{Answer, Outcome, gives, asks, over}
 use Rattle.dos_world.specs.declared.Config.{Config}
@@ -7,6 +8,7 @@ use Rattle.dos_world.specs.declared.Question.{Question}
 use Rattle.round_core.specs.Protocol.{any_protocol}
 use Rattle.round_core.specs.Invariants.{IsOf}
 use Rattle.round_core.proofs.Allowed.{over_allows}
+use Rattle.round_core.proofs.Buffers.{buffered-form}
 use Rattle.round_core.proofs.SameRun.{same_run_kept}
 use Rattle.elf_image.specs.Image.{Image}
 use Rattle.flat_machine.specs.Opening.{opening}
@@ -34,6 +36,7 @@ module _ (q limit : ℕ) where
   owes : RunOwes any_protocol limit CountIs
   owes = record {
     round_kept = λ n. same_run_kept q n any_protocol (λ question output error. tt);
+    buffered_kept = λ n ts w k. subst (λ (x : World). IsOf q n x) (sym (buffered-form w)) k;
     may_ask = λ n m w k. tt;
     counted_kept = λ n w lt k. (k.0, ap (λ rounds. rounds + 1) k.1);
   }
@@ -54,7 +57,7 @@ machine_within images config answers s is =
         (LeavesFinish config.rounds (CountIs w.quantum config.rounds)) answers
         (rounds_from w config) finish rest
         (rounds_keep any_protocol config.rounds (CountIs w.quantum config.rounds)
-        (owes w.quantum config.rounds) (config.rounds - 0) 0 w 0 (omega arith)
+        (owes w.quantum config.rounds) config.scheme (config.rounds - 0) 0 w 0 (omega arith)
         (refl, refl)) (λ k d lt. tt) gave in
         let rounds : finish.world.rounds ≡ left.0 = left.2.1 in
         omega (arith, rounds, left.1)

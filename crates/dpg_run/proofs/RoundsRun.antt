@@ -16,6 +16,7 @@ use Rattle.dos_world.specs.declared.Ending.TheVariants.{Done as done_ending, Lim
 use Rattle.dos_world.specs.declared.Ending.TheVariants.{Stalled as stalled_ending}
 use Rattle.dos_world.specs.declared.Question.{Question}
 use Rattle.dos_world.specs.declared.Question.TheVariants.{End as end_question}
+use Rattle.dos_world.specs.declared.Scheme.{Scheme}
 use Rattle.dos_io.specs.declared.exchange.Exchange.TheVariants.{End}
 use Rattle.dos_io.specs.Exchanges.{question_of, answer_of}
 use Rattle.dos_laws.specs.Plays.{world_ended}
@@ -50,7 +51,8 @@ use Rattle.dos_io.specs.declared.border.Stream.TheVariants.{Output, Error}
 use Rattle.dos_io.proofs.OutsideLaws.{front-whole}
 use Rattle.group_rounds.proofs.PlayCauses.{asks_before_end, by_question, causes_err, fails_of}
 use Rattle.group_rounds.proofs.WorkLaws.{plays_more, since_more, since_nothing, since_then}
-use Rattle.group_rounds.proofs.FrontLaws.{HasSent, fronts_kept, fronts_over, sending}
+use Rattle.group_rounds.proofs.FrontLaws.{HasSent, fronts_buffered, fronts_kept, fronts_over}
+use Rattle.group_rounds.proofs.FrontLaws.{sending}
 use Rattle.worker_pool.specs.Ran.{GrewBy}
 use Rattle.worker_pool.proofs.Growing.{grew-more, grew-nothing}
 use Rattle.flat_machine.specs.Machine.{Finish, rounds_of, rounds_from, told_end, run_from}
@@ -81,17 +83,21 @@ module _ (o e : List ℕ) where
   owes : (limit : ℕ) → RunOwes (sending o e) limit (λ n. HasSent o e)
   owes limit = record {
     round_kept = λ n. fronts_kept o e;
+    buffered_kept = λ n. fronts_buffered o e;
     may_ask = λ n m w k. k;
     counted_kept = λ n w lt k. k;
   }
 
-  fronts_rounds : (left work : ℕ) (w : World) (more : List Answer) → HasSent o e [] w
-      → AreFrontsOf (λ finish. finish.world) o e (over more (rounds_of left w work))
-  fronts_rounds left work w more h =
-      fronts_over o e (λ finish. finish.world) more (rounds_of left w work)
+  fronts_rounds : (scheme : Scheme) (left work : ℕ) (w : World) (more : List Answer)
+      → HasSent o e [] w
+      → AreFrontsOf (λ finish. finish.world) o e (over more (rounds_of scheme left w work))
+  fronts_rounds scheme left work w more h =
+      fronts_over o e (λ finish. finish.world) more (rounds_of scheme left w work)
       (allows_less (sending o e) (LeavesFinish left (λ n. HasSent o e))
-      (λ finish. HasSent o e [] finish.world) (rounds_of left w work) (λ finish left. left.2)
-      (rounds_keep (sending o e) left (λ n. HasSent o e) (owes left) left 0 w work (omega arith) h))
+      (λ finish. HasSent o e [] finish.world) (rounds_of scheme left w work)
+      (λ finish left. left.2)
+      (rounds_keep (sending o e) left (λ n. HasSent o e) (owes left) scheme left 0 w work
+      (omega arith) h))
 
 -- ---- one round
 
@@ -102,18 +108,18 @@ plus_nothing : (n : ℕ) → n ≡ 0 + n
 plus_nothing n = omega arith
 
 -- what follows a round, with so many left and after so much work
-abbrev after_round : ℕ → ℕ → FlatEnd → Play Finish
-after_round left work (went next more) = rounds_of left next (work + more)
-after_round left work (finished last) = done (finish_in done_ending last work)
-after_round left work (stalled last) = done (finish_in stalled_ending last work)
+abbrev after_round : Scheme → ℕ → ℕ → FlatEnd → Play Finish
+after_round scheme left work (went next more) = rounds_of scheme left next (work + more)
+after_round scheme left work (finished last) = done (finish_in done_ending last work)
+after_round scheme left work (stalled last) = done (finish_in stalled_ending last work)
 
 -- is what is left of the run
 behind_round : (config : Config) (left work : ℕ) (so : RoundEnd) (ended : Option Ending) (more : ℕ)
     (last : World) → ending_by so ≡ ended → (so ≡ Went → config.rounds - last.rounds ≡ left)
-    → after_round left work (end_in so more last)
+    → after_round config.scheme left work (end_in so more last)
     ≡ left_of_run config ended (work + work_in so more) last
 behind_round config left work Went ended more last is rounds =
-    ap (λ n. rounds_of n last (work + more)) (sym (rounds refl))
+    ap (λ n. rounds_of config.scheme n last (work + more)) (sym (rounds refl))
     ∙ ap (λ e. left_of_run config e (work + more) last) is
 behind_round config left work Done ended more last is rounds =
     ap (λ n. done (finish_in done_ending last n)) (sym (with_nothing work))
@@ -123,12 +129,12 @@ behind_round config left work Stalled ended more last is rounds =
     ∙ ap (λ e. left_of_run config e (work + 0) last) is
 
 -- what follows a round sends its bytes behind those that were sent
-after_behind : (left work : ℕ) → SendsBehind world_ended (λ (finish : Finish). finish.world)
-    (after_round left work)
-after_behind left work o e (went next more) out err =
-    fronts_rounds o e left (work + more) next [] (out, err)
-after_behind left work o e (finished last) out err = (out, err)
-after_behind left work o e (stalled last) out err = (out, err)
+after_behind : (scheme : Scheme) (left work : ℕ)
+    → SendsBehind world_ended (λ (finish : Finish). finish.world) (after_round scheme left work)
+after_behind scheme left work o e (went next more) out err =
+    fronts_rounds o e scheme left (work + more) next [] (out, err)
+after_behind scheme left work o e (finished last) out err = (out, err)
+after_behind scheme left work o e (stalled last) out err = (out, err)
 
 -- one round that is run leaves one less
 one_less : (rounds round now : ℕ) (so : RoundEnd) → now ≡ next_round so round → so ≡ Went
@@ -143,24 +149,27 @@ end_is Went ended is = ap end_by is
 end_is Done ended is = ap end_by is
 end_is Stalled ended is = ap end_by is
 
-pub next_ok : (q : ℕ) (s s' : State) (told after : BorderState) (so : RoundEnd)
+pub next_ok : (config : Config) (s s' : State) (told after : BorderState) (so : RoundEnd)
     (ended : Option Ending) (more : ℕ) → ending_by so ≡ ended
-    → PlaysOn q (λ w. round_of w) s told (λ w. done (end_in so more w)) s' after
-    → PlaysNext q (Ok ended) s told s' after
-next_ok q s s' told after so ended more is h = record {
+    → PlaysOn config.quantum (λ w. round_of config.scheme w) s told
+    (λ w. done (end_in so more w)) s' after
+    → PlaysNext config (Ok ended) s told s' after
+next_ok config s s' told after so ended more is h = record {
   work = more;
   plays = record {
-    goes = subst (λ x. PlaysOn q (λ w. round_of w) s told (λ w. done (end_in x more w)) s' after)
+    goes = subst (λ x. PlaysOn config.quantum (λ w. round_of config.scheme w) s told
+        (λ w. done (end_in x more w)) s' after)
         (end_is so ended is) h;
     stops = tt;
   };
 }
 
-pub next_err : (q : ℕ) (s s' : State) (told after : BorderState) (stop : RunStop) (more : ℕ)
-    → Plays q world_ended (λ w. round_of w) (λ (end : RoundEnd) w. done (end_in end more w))
-    (Err stop) s told s' after
-    → PlaysNext q (Err stop) s told s' after
-next_err q s s' told after stop more k =
+pub next_err : (config : Config) (s s' : State) (told after : BorderState) (stop : RunStop)
+    (more : ℕ)
+    → Plays config.quantum world_ended (λ w. round_of config.scheme w)
+    (λ (end : RoundEnd) w. done (end_in end more w)) (Err stop) s told s' after
+    → PlaysNext config (Err stop) s told s' after
+next_err config s s' told after stop more k =
     record { work = more; plays = record { goes = tt; stops = k.stops } }
 
 pub next_numbered : (round now : ℕ) (so : RoundEnd) (ended : Option Ending) → ending_by so ≡ ended
@@ -173,42 +182,46 @@ module _ (config : Config) (s s' : State) (told after : BorderState) (tally tall
   -- a round is left
   begins : (earlier : ℕ) (o e : List ℕ)
       → rounds_left config earlier (sent o e (world_of config.quantum s))
-      ≡ rounds_of (suc (config.rounds - s.round)) (sent o e (world_of config.quantum s)) earlier
+      ≡ rounds_of config.scheme (suc (config.rounds - s.round))
+      (sent o e (world_of config.quantum s)) earlier
   begins earlier o e =
-      ap (λ n. rounds_of n (sent o e (world_of config.quantum s)) earlier)
+      ap (λ n. rounds_of config.scheme n (sent o e (world_of config.quantum s)) earlier)
       (let n : config.rounds - (s.round - 1) ≡ suc (config.rounds - s.round) =
       omega (arith, first, allowed) in n)
 
   -- and what the rounds play, as it is run
   left_plays : (result : Result RoundEnd RunStop) (earlier more : ℕ)
-      → Plays config.quantum world_ended (λ w. round_of w) (λ end w. done (end_in end more w))
-      result s told s' after
+      → Plays config.quantum world_ended (λ w. round_of config.scheme w)
+      (λ end w. done (end_in end more w)) result s told s' after
       → Plays config.quantum (λ finish. finish.world) (λ w. rounds_left config earlier w)
-      (λ end w. after_round (config.rounds - s.round) earlier (end_in end more w)) result s told s'
-      after
+      (λ end w. after_round config.scheme (config.rounds - s.round) earlier (end_in end more w))
+      result s told s' after
   left_plays result earlier more k =
       plays_from config.quantum (λ finish. finish.world) (λ w. rounds_left config earlier w)
-      (λ w. rounds_of (suc (config.rounds - s.round)) w earlier)
-      (λ end w. after_round (config.rounds - s.round) earlier (end_in end more w)) result s s' told
-      after (begins earlier)
-      (plays_before config.quantum world_ended (λ finish. finish.world) (λ w. round_of w)
-      (after_round (config.rounds - s.round) earlier) (λ end w. done (end_in end more w)) result s
-      s' told after (after_behind (config.rounds - s.round) earlier) k)
+      (λ w. rounds_of config.scheme (suc (config.rounds - s.round)) w earlier)
+      (λ end w. after_round config.scheme (config.rounds - s.round) earlier (end_in end more w))
+      result s s' told after (begins earlier)
+      (plays_before config.quantum world_ended (λ finish. finish.world)
+      (λ w. round_of config.scheme w)
+      (after_round config.scheme (config.rounds - s.round) earlier)
+      (λ end w. done (end_in end more w)) result s s' told after
+      (after_behind config.scheme (config.rounds - s.round) earlier) k)
 
   pub some_ok : (so : RoundEnd) (ended : Option Ending) (more : ℕ) → ending_by so ≡ ended
       → s'.round ≡ next_round so s.round
-      → PlaysOn config.quantum (λ w. round_of w) s told (λ w. done (end_in so more w)) s' after
+      → PlaysOn config.quantum (λ w. round_of config.scheme w) s told
+      (λ w. done (end_in so more w)) s' after
       → GrewBy tally tally_after (work_by (Ok so) more)
       → PlaysSome config (Ok ended) s told s' after tally tally_after
   some_ok so ended more is round h grew = record {
     work = work_in so more;
     plays = λ earlier. record {
       goes = plays_and config.quantum (λ w. rounds_left config earlier w)
-          (λ w. after_round (config.rounds - s.round) earlier (end_in so more w))
+          (λ w. after_round config.scheme (config.rounds - s.round) earlier (end_in so more w))
           (λ w. left_of_run config ended (earlier + work_in so more) w) s s' s' told after after
           (left_plays (Ok so) earlier more (record { goes = h; stops = tt })).goes
           (plays_still config.quantum
-          (λ w. after_round (config.rounds - s.round) earlier (end_in so more w))
+          (λ w. after_round config.scheme (config.rounds - s.round) earlier (end_in so more w))
           (λ w. left_of_run config ended (earlier + work_in so more) w) s' s' after
           (λ o e. behind_round config (config.rounds - s.round) earlier so ended more
           (sent o e (world_of config.quantum s')) is
@@ -220,9 +233,9 @@ module _ (config : Config) (s s' : State) (told after : BorderState) (tally tall
   }
 
   pub some_err : (stop : RunStop) (more : ℕ)
-      → Plays config.quantum world_ended (λ w. round_of w)
+      → Plays config.quantum world_ended (λ w. round_of config.scheme w)
       (λ (end : RoundEnd) w. done (end_in end more w)) (Err stop) s told s' after
-      → ((o e : List ℕ) → begun_work (sent o e (world_of config.quantum s))
+      → ((o e : List ℕ) → begun_work config.scheme (sent o e (world_of config.quantum s))
       (answers_since told.shim.told after.shim.told) ≡ more)
       → GrewBy tally tally_after more
       → PlaysSome config (Err stop) s told s' after tally tally_after
@@ -267,15 +280,15 @@ some_over config s b tally ending past is = record {
   plays = λ earlier. record {
     goes = plays_still config.quantum (λ w. rounds_left config earlier w)
         (λ w. done (finish_in ending w (earlier + 0))) s s b
-        (λ o e. ap (λ n. rounds_of n (sent o e (world_of config.quantum s)) earlier)
+        (λ o e. ap (λ n. rounds_of config.scheme n (sent o e (world_of config.quantum s)) earlier)
         (let n : config.rounds - (s.round - 1) ≡ 0 = omega (arith, past) in n)
-        ∙ ap (λ n. rounds_of 0 (sent o e (world_of config.quantum s)) n)
+        ∙ ap (λ n. rounds_of config.scheme 0 (sent o e (world_of config.quantum s)) n)
         (sym (with_nothing earlier))
         ∙ ap (λ end. done (finish_in end (sent o e (world_of config.quantum s)) (earlier + 0)))
         (sym is));
     stops = tt;
   };
-  worked = λ o e. ap (λ n. rounds_work n (sent o e (world_of config.quantum s))
+  worked = λ o e. ap (λ n. rounds_work config.scheme n (sent o e (world_of config.quantum s))
       (answers_since b.shim.told b.shim.told))
       (let n : config.rounds - (s.round - 1) ≡ 0 = omega (arith, past) in n);
   grew = grew-nothing tally;
@@ -592,29 +605,6 @@ module _ (config : Config) (start s : State) (before told : Telling) (ending : E
 
 -- ---- rounds that are run, whatever is left behind them
 
--- none
-pub on_nothing : (q : ℕ) (s : State) (b : BorderState) → RunsOn q 0 s b s b
-on_nothing q s b = record {
-  crossings = [];
-  tells = tells_nothing b;
-  work = 0;
-  goes = λ o e left earlier.
-      ap (λ n. rounds_of n (sent o e (world_of q s)) earlier) (sym (plus_nothing left))
-      ∙ ap (λ n. rounds_of left (sent o e (world_of q s)) n) (sym (with_nothing earlier))
-      ∙ ap₂ (λ x y. rounds_of left (sent x y (world_of q s)) (earlier + 0)) (sym (append-nil o))
-      (sym (append-nil e));
-}
-
--- one round of those that are left
-one_on : (q : ℕ) (s s' : State) (b b' : BorderState) (h : PlaysNext q (Ok None) s b s' b')
-    (o e : List ℕ) (left earlier : ℕ)
-    → GoesOver o e h.plays.goes.crossings (rounds_of (suc left) (sent o e (world_of q s)) earlier)
-    (rounds_of left (sent_then h.plays.goes.crossings o e (world_of q s')) (earlier + h.work))
-one_on q s s' b b' h o e left earlier =
-    over-then o e h.plays.goes.crossings (round_of (sent o e (world_of q s)))
-    (done (end_in Went h.work (sent_then h.plays.goes.crossings o e (world_of q s'))))
-    (after_round left earlier) (h.plays.goes.goes o e)
-
 -- first so, then so
 over_both : {A : Type 0} (o e : List ℕ) (cs ds : List Crossing) (p p' : Play A)
     (left : World → Play A) (w : World) → GoesOver o e cs p p'
@@ -630,54 +620,86 @@ over_both o e cs ds p p' left w h k =
     (over-append o e cs ds p p'
     (left (sent_then ds (o ++ bytes_to Output cs) (e ++ bytes_to Error cs) w)) h k))
 
--- and one more
-pub on_more : (q n : ℕ) (s s' s'' : State) (b b' b'' : BorderState) → RunsOn q n s b s' b'
-    → PlaysNext q (Ok None) s' b' s'' b'' → RunsOn q (n + 1) s b s'' b''
-on_more q n s s' s'' b b' b'' h k = record {
-  crossings = h.crossings ++ k.plays.goes.crossings;
-  tells = tells_then b b' b'' h.crossings k.plays.goes.crossings h.tells k.plays.goes.tells;
-  work = h.work + k.work;
-  goes = λ o e left earlier.
-      over_both o e h.crossings k.plays.goes.crossings
-      (rounds_of (n + 1 + left) (sent o e (world_of q s)) earlier)
-      (rounds_of (suc left) (sent_then h.crossings o e (world_of q s')) (earlier + h.work))
-      (λ w. rounds_of left w (earlier + (h.work + k.work))) (world_of q s'')
-      (subst (λ m. GoesOver o e h.crossings (rounds_of m (sent o e (world_of q s)) earlier)
-      (rounds_of (suc left) (sent_then h.crossings o e (world_of q s')) (earlier + h.work)))
-      (let m : n + suc left ≡ n + 1 + left = omega arith in m) (h.goes o e (suc left) earlier))
-      (subst (λ m. GoesOver (o ++ bytes_to Output h.crossings) (e ++ bytes_to Error h.crossings)
-      k.plays.goes.crossings
-      (rounds_of (suc left) (sent_then h.crossings o e (world_of q s')) (earlier + h.work))
-      (rounds_of left (sent_then k.plays.goes.crossings (o ++ bytes_to Output h.crossings)
-      (e ++ bytes_to Error h.crossings) (world_of q s'')) m))
-      (let m : earlier + h.work + k.work ≡ earlier + (h.work + k.work) = omega arith in m)
-      (one_on q s' s'' b' b'' k (o ++ bytes_to Output h.crossings) (e ++ bytes_to Error h.crossings)
-      left (earlier + h.work)));
-}
+module _ (config : Config) where
+  -- so many rounds of the scheme
+  abbrev rounds_on : ℕ → World → ℕ → Play Finish
+  rounds_on n w work = rounds_of config.scheme n w work
 
--- where a round was run behind which the run goes on
-pub on_next : (ended : Option Ending) (q n : ℕ) (s s' s'' : State) (b b' b'' : BorderState)
-    → ended ≡ None → RunsOn q n s b s' b' → PlaysNext q (Ok ended) s' b' s'' b''
-    → RunsOn q (n + 1) s b s'' b''
-on_next None q n s s' s'' b b' b'' is h k = on_more q n s s' s'' b b' b'' h k
-on_next (Some ending) q n s s' s'' b b' b'' is h k = absurd cc
+  -- what a state shows
+  abbrev shown : State → World
+  shown s = world_of config.quantum s
 
--- as many as were asked for
-pub on_all : (q i rounds : ℕ) (s s' : State) (b b' : BorderState) → i ≤ rounds → rounds ≤ i
-    → RunsOn q i s b s' b' → RunsOn q rounds s b s' b'
-on_all q i rounds s s' b b' few past h =
-    subst (λ n. RunsOn q n s b s' b')
-    (let n : i ≡ rounds = omega (arith, few, past) in n) h
+  -- none
+  pub on_nothing : (s : State) (b : BorderState) → RunsOn config 0 s b s b
+  on_nothing s b = record {
+    crossings = [];
+    tells = tells_nothing b;
+    work = 0;
+    goes = λ o e left earlier.
+        ap (λ n. rounds_on n (sent o e (shown s)) earlier) (sym (plus_nothing left))
+        ∙ ap (λ n. rounds_on left (sent o e (shown s)) n) (sym (with_nothing earlier))
+        ∙ ap₂ (λ x y. rounds_on left (sent x y (shown s)) (earlier + 0)) (sym (append-nil o))
+        (sym (append-nil e));
+  }
 
--- by whether the run goes on
-pub on_rounds : (ended : Option Ending) (q rounds : ℕ) (s s' : State) (b b' : BorderState)
-    → ended ≡ None → HasRunOn ended q rounds s b s' b' → RunsOn q rounds s b s' b'
-on_rounds None q rounds s s' b b' is h = h
-on_rounds (Some ending) q rounds s s' b b' is h = absurd cc
+  -- one round of those that are left
+  one_on : (s s' : State) (b b' : BorderState) (h : PlaysNext config (Ok None) s b s' b')
+      (o e : List ℕ) (left earlier : ℕ)
+      → GoesOver o e h.plays.goes.crossings (rounds_on (suc left) (sent o e (shown s)) earlier)
+      (rounds_on left (sent_then h.plays.goes.crossings o e (shown s')) (earlier + h.work))
+  one_on s s' b b' h o e left earlier =
+      over-then o e h.plays.goes.crossings (round_of config.scheme (sent o e (shown s)))
+      (done (end_in Went h.work (sent_then h.plays.goes.crossings o e (shown s'))))
+      (after_round config.scheme left earlier) (h.plays.goes.goes o e)
+
+  -- and one more
+  pub on_more : (n : ℕ) (s s' s'' : State) (b b' b'' : BorderState) → RunsOn config n s b s' b'
+      → PlaysNext config (Ok None) s' b' s'' b'' → RunsOn config (n + 1) s b s'' b''
+  on_more n s s' s'' b b' b'' h k = record {
+    crossings = h.crossings ++ k.plays.goes.crossings;
+    tells = tells_then b b' b'' h.crossings k.plays.goes.crossings h.tells k.plays.goes.tells;
+    work = h.work + k.work;
+    goes = λ o e left earlier.
+        over_both o e h.crossings k.plays.goes.crossings
+        (rounds_on (n + 1 + left) (sent o e (shown s)) earlier)
+        (rounds_on (suc left) (sent_then h.crossings o e (shown s')) (earlier + h.work))
+        (λ w. rounds_on left w (earlier + (h.work + k.work))) (shown s'')
+        (subst (λ m. GoesOver o e h.crossings (rounds_on m (sent o e (shown s)) earlier)
+        (rounds_on (suc left) (sent_then h.crossings o e (shown s')) (earlier + h.work)))
+        (let m : n + suc left ≡ n + 1 + left = omega arith in m) (h.goes o e (suc left) earlier))
+        (subst (λ m. GoesOver (o ++ bytes_to Output h.crossings) (e ++ bytes_to Error h.crossings)
+        k.plays.goes.crossings
+        (rounds_on (suc left) (sent_then h.crossings o e (shown s')) (earlier + h.work))
+        (rounds_on left (sent_then k.plays.goes.crossings (o ++ bytes_to Output h.crossings)
+        (e ++ bytes_to Error h.crossings) (shown s'')) m))
+        (let m : earlier + h.work + k.work ≡ earlier + (h.work + k.work) = omega arith in m)
+        (one_on s' s'' b' b'' k (o ++ bytes_to Output h.crossings)
+        (e ++ bytes_to Error h.crossings) left (earlier + h.work)));
+  }
+
+  -- where a round was run behind which the run goes on
+  pub on_next : (ended : Option Ending) (n : ℕ) (s s' s'' : State) (b b' b'' : BorderState)
+      → ended ≡ None → RunsOn config n s b s' b' → PlaysNext config (Ok ended) s' b' s'' b''
+      → RunsOn config (n + 1) s b s'' b''
+  on_next None n s s' s'' b b' b'' is h k = on_more n s s' s'' b b' b'' h k
+  on_next (Some ending) n s s' s'' b b' b'' is h k = absurd cc
+
+  -- as many as were asked for
+  pub on_all : (i rounds : ℕ) (s s' : State) (b b' : BorderState) → i ≤ rounds → rounds ≤ i
+      → RunsOn config i s b s' b' → RunsOn config rounds s b s' b'
+  on_all i rounds s s' b b' few past h =
+      subst (λ n. RunsOn config n s b s' b')
+      (let n : i ≡ rounds = omega (arith, few, past) in n) h
+
+  -- by whether the run goes on
+  pub on_rounds : (ended : Option Ending) (rounds : ℕ) (s s' : State) (b b' : BorderState)
+      → ended ≡ None → HasRunOn ended config rounds s b s' b' → RunsOn config rounds s b s' b'
+  on_rounds None rounds s s' b b' is h = h
+  on_rounds (Some ending) rounds s s' b b' is h = absurd cc
 
 -- what is told more of them
 pub ran_to : (config : Config) (rounds : ℕ) (s s' : State) (b b' : BorderState) (t t' : ℕ)
-    → PlaysSome config (Ok None) s b s' b' t t' → RunsOn config.quantum rounds s b s' b'
+    → PlaysSome config (Ok None) s b s' b' t t' → RunsOn config rounds s b s' b'
     → s'.round ≡ s.round + rounds → HasNoEnd b'.shim.told
     → RanTo config rounds s (told_at b) s' (told_at b') t t'
 ran_to config rounds s s' b b' t t' some on counted running = record {
@@ -685,8 +707,8 @@ ran_to config rounds s s' b b' t t' some on counted running = record {
   runs = record {
     work = on.work;
     goes = λ o e left earlier. goes-exchanges o e on.crossings
-        (rounds_of (rounds + left) (sent o e (world_of config.quantum s)) earlier)
-        (rounds_of left (sent_then on.crossings o e (world_of config.quantum s'))
+        (rounds_of config.scheme (rounds + left) (sent o e (world_of config.quantum s)) earlier)
+        (rounds_of config.scheme left (sent_then on.crossings o e (world_of config.quantum s'))
         (earlier + on.work)) (on.goes o e left earlier);
   };
   counted = counted;

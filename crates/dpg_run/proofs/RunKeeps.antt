@@ -4,6 +4,7 @@ use Rattle.std.proofs.Common.{ℕ, zero, suc, ◌+◌, sym, subst, [], arith}
 use Rattle.dos_world.specs.World.{World}
 use Rattle.dos_world.specs.Play.{Play, done}
 use Rattle.dos_world.specs.declared.Ending.TheVariants.{Done, Stalled}
+use Rattle.dos_world.specs.declared.Scheme.{Scheme}
 use Rattle.round_core.specs.Protocol.{Protocol, Allows}
 use Rattle.round_core.specs.Invariants.{Holds, LeavesEnd}
 use Rattle.flat_machine.specs.Round.{RoundEnd, went, finished, stalled, round_of}
@@ -13,9 +14,9 @@ use Rattle.dpg_run.specs.Laws.{LeavesFinish, RunIsKept, RunOwes}
 use Rattle.flat_machine.specs.Machine.{Finish, rounds_of}
 
 -- how the run goes on after a round
-abbrev pub goes_on : ℕ → ℕ → RoundEnd → Play Finish
-goes_on count work e = elim e as (λ _. Play Finish) [
-  | went next more ↦ rounds_of count next (work + more)
+abbrev pub goes_on : Scheme → ℕ → ℕ → RoundEnd → Play Finish
+goes_on scheme count work e = elim e as (λ _. Play Finish) [
+  | went next more ↦ rounds_of scheme count next (work + more)
   | finished last ↦ done (record { ending = Done; world = last; work = work })
   | stalled last ↦ done (record { ending = Stalled; world = last; work = work })
 ]
@@ -26,15 +27,18 @@ module _ (protocol : Protocol) (limit : ℕ) (I : ℕ → Holds) (owes : RunOwes
   Leaves finish = LeavesFinish limit I finish
 
   pub rounds_keep : RunIsKept protocol limit I
-  rounds_keep zero n w work few h = (n, omega (arith, few), h)
-  rounds_keep (suc count) n w work few h =
-      then_allows protocol (LeavesEnd (I n [])) Leaves (round_of w) (goes_on count work)
-      (round_keeps protocol (I n) (owes.round_kept n) w (owes.may_ask n (w.rounds + 1) w h) h)
-      (by_end (λ next ran. rounds_keep count (n + 1) next ran (omega (arith, few))))
+  rounds_keep scheme zero n w work few h = (n, omega (arith, few), h)
+  rounds_keep scheme (suc count) n w work few h =
+      then_allows protocol (LeavesEnd (I n [])) Leaves (round_of scheme w)
+      (goes_on scheme count work)
+      (round_keeps protocol (I n) (owes.round_kept n) (owes.buffered_kept n) scheme w
+      (owes.may_ask n (w.rounds + 1) w h) h)
+      (by_end (λ next ran. rounds_keep scheme count (n + 1) next ran (omega (arith, few))))
     where
       by_end : ((next : World) (ran : ℕ) → I (n + 1) [] next
-          → Allows protocol Leaves (rounds_of count next ran))
-          → (e : RoundEnd) → LeavesEnd (I n []) e → Allows protocol Leaves (goes_on count work e)
+          → Allows protocol Leaves (rounds_of scheme count next ran))
+          → (e : RoundEnd) → LeavesEnd (I n []) e
+          → Allows protocol Leaves (goes_on scheme count work e)
       by_end rest (went next ran) h =
           rest next (work + ran)
           (subst (I (n + 1) []) (sym h.1)

@@ -72,15 +72,15 @@ end_by (Some stalled_ending) = Stalled
 end_by (Some _) = Done
 
 -- The call plays one round of the old state's world, whatever bytes were sent before.
-pub record PlaysNext (quantum : ℕ) (result : Result (Option Ending) RunStop) (old : State)
+pub record PlaysNext (config : Config) (result : Result (Option Ending) RunStop) (old : State)
     (before : BorderState) (new : State) (after : BorderState) : Type 0 where
   pub work : ℕ
-  pub plays : Plays quantum world_ended (λ w. round_of w)
+  pub plays : Plays config.quantum world_ended (λ w. round_of config.scheme w)
       (λ ended w. done (end_in (end_by ended) work w)) result old before new after
 
 -- the rounds that the configuration leaves to a world, after so much work
 abbrev pub rounds_left : Config → (work : ℕ) → World → Play Finish
-rounds_left config work w = rounds_of (config.rounds - w.rounds) w work
+rounds_left config work w = rounds_of config.scheme (config.rounds - w.rounds) w work
 
 -- what is left of a run that has ended so, or goes on
 abbrev pub left_of_run : Config → Option Ending → (work : ℕ) → World → Play Finish

@@ -6,8 +6,10 @@ use Rattle.dos_world.specs.Lawful.{Lawful, IsConfig}
 use Rattle.dos_world.specs.Play.{Answer, gives, over, questions}
 use Rattle.dos_world.specs.declared.Config.{Config}
 use Rattle.dos_world.specs.declared.Question.TheVariants.{Signals}
+use Rattle.dos_world.specs.declared.Scheme.{Scheme}
 use Rattle.round_core.specs.Protocol.{Protocol, Allows}
-use Rattle.round_core.specs.Invariants.{Holds, Keeps}
+use Rattle.round_core.specs.Invariants.{Holds, Keeps, PhaseKeeps}
+use Rattle.flat_machine.specs.Buffered.{buffered}
 use Rattle.flat_machine.specs.Round.{counted}
 use Rattle.dos_laws.specs.Standing.{IsFit}
 use Rattle.elf_image.specs.Image.{Image}
@@ -24,9 +26,11 @@ use Rattle.flat_machine.specs.Machine.{run_from}
 
 -- ---- invariants of a run, one for each count of its rounds
 
--- What a round keeps, the run owes for each round; a round more is counted below the limit.
+-- What a round keeps, in either scheme, the run owes for each round; a round more is counted below
+-- the limit.
 pub record RunOwes (protocol : Protocol) (limit : ℕ) (I : ℕ → Holds) : Type 0 where
   pub round_kept : (n : ℕ) → Keeps protocol (I n)
+  pub buffered_kept : (n : ℕ) → PhaseKeeps (I n) buffered
   pub may_ask : (n m : ℕ) (w : World) → I n [] w → protocol.may (Signals m) w.output w.error
   pub counted_kept : (n : ℕ) (w : World) → n < limit → I n [] w → I (n + 1) [] (counted w)
 
@@ -34,20 +38,21 @@ pub record RunOwes (protocol : Protocol) (limit : ℕ) (I : ℕ → Holds) : Typ
 abbrev pub LeavesFinish : ℕ → (ℕ → Holds) → Finish → Type 0
 LeavesFinish limit I finish = (n : ℕ) × (n ≤ limit) × I n [] finish.world
 
--- So many rounds keep it, from whatever world it holds of.
+-- So many rounds of a scheme keep it, from whatever world it holds of.
 abbrev pub RunIsKept : Protocol → ℕ → (ℕ → Holds) → Type 0
 RunIsKept protocol limit I =
-    (count n : ℕ) (w : World) (work : ℕ) → n + count ≤ limit → I n [] w
-    → Allows protocol (LeavesFinish limit I) (rounds_of count w work)
+    (scheme : Scheme) (count n : ℕ) (w : World) (work : ℕ) → n + count ≤ limit → I n [] w
+    → Allows protocol (LeavesFinish limit I) (rounds_of scheme count w work)
 
 -- ---- lawfulness
 
--- From a lawful world so many rounds, where they may be run, lead to a lawful world, after no more
--- of them, over all answers that fit.
+-- From a lawful world so many rounds of a scheme, where they may be run, lead to a lawful world,
+-- after no more of them, over all answers that fit.
 abbrev pub RunsEndLawful : Type 0
-RunsEndLawful = (count : ℕ) (w : World) (work : ℕ) (answers rest : List Answer) (finish : Finish)
+RunsEndLawful = (scheme : Scheme) (count : ℕ) (w : World) (work : ℕ)
+    (answers rest : List Answer) (finish : Finish)
     → w.rounds + count ≤ 1000000 → Lawful w → All IsFit answers
-    → over answers (rounds_of count w work) ≡ gives finish rest
+    → over answers (rounds_of scheme count w work) ≡ gives finish rest
     → Lawful finish.world × (finish.world.rounds ≤ w.rounds + count)
 
 -- So the run of 1 to 8 accepted images that fit the frames ends in a lawful world, after no more
@@ -105,21 +110,23 @@ seen_joined first second output error work s = record s {
 pub record RunsJoin : Type 0 where
   -- to its end
   pub ended : (w last : World) (config : Config) (rounds : ℕ) (first second : List Exchange)
-      (output error : List ℕ) (s : Seen) → (ran : RunsTo rounds w first output error last)
+      (output error : List ℕ) (s : Seen)
+      → (ran : RunsTo config.scheme rounds w first output error last)
       → last.rounds ≡ w.rounds + rounds → last.rounds ≤ config.rounds
       → RunsToItsEnd last config second s
       → RunsToItsEnd w config (first ++ second) (seen_joined first second output error ran.work s)
   -- to a question
   pub asked : (w last : World) (config : Config) (rounds : ℕ) (first second : List Exchange)
       (question : Question) (output error output_then error_then : List ℕ)
-      → RunsTo rounds w first output error last
+      → RunsTo config.scheme rounds w first output error last
       → last.rounds ≡ w.rounds + rounds → last.rounds ≤ config.rounds
       → RunsToQuestion last config second question output_then error_then
       → RunsToQuestion w config (first ++ second) question (output ++ output_then)
       (error ++ error_then)
   -- and where the exchanges behind the first don't fit, the number goes on
   pub misfits : (w last : World) (config : Config) (rounds : ℕ) (first rest : List Exchange)
-      (output error : List ℕ) (n : ℕ) (o e : List ℕ) → RunsTo rounds w first output error last
+      (output error : List ℕ) (n : ℕ) (o e : List ℕ)
+      → RunsTo config.scheme rounds w first output error last
       → last.rounds ≡ w.rounds + rounds → last.rounds ≤ config.rounds
       → misfit_from n (first ++ rest) (run_from (sent o e w) config)
       ≡ misfit_from (n + length first) rest

@@ -6,6 +6,7 @@ use Rattle.dos_world.specs.World.{World}
 use Rattle.dos_world.specs.declared.Config.{Config}
 use Rattle.dos_world.specs.declared.Ending.{Ending}
 use Rattle.dos_world.specs.declared.Question.{Question}
+use Rattle.dos_world.specs.declared.Scheme.{Scheme}
 use Rattle.dos_io.specs.Borders.{BorderState, Crossing, Tells}
 use Rattle.dos_io.specs.Exchanges.{answer_of, question_of}
 use Rattle.dos_io.specs.Shims.{HasNoEnd}
@@ -22,38 +23,40 @@ use Rattle.dpg_run.specs.Work.{work_from}
 
 -- ---- so many rounds
 
--- So many rounds from a world, over these exchanges, send these bytes and lead to that world,
--- whatever was sent before, and however many rounds are left behind them.
-pub record RunsTo (rounds : ℕ) (w : World) (exchanges : List Exchange) (output error : List ℕ)
-    (last : World) : Type 0 where
+-- So many rounds of a scheme from a world, over these exchanges, send these bytes and lead to that
+-- world, whatever was sent before, and however many rounds are left behind them.
+pub record RunsTo (scheme : Scheme) (rounds : ℕ) (w : World) (exchanges : List Exchange)
+    (output error : List ℕ) (last : World) : Type 0 where
   pub work : ℕ
   pub goes : (o e : List ℕ) (left earlier : ℕ)
-      → GoesOn exchanges (rounds_of (rounds + left) (sent o e w) earlier)
-      (rounds_of left (sent (o ++ output) (e ++ error) last) (earlier + work))
+      → GoesOn exchanges (rounds_of scheme (rounds + left) (sent o e w) earlier)
+      (rounds_of scheme left (sent (o ++ output) (e ++ error) last) (earlier + work))
 
 -- The same of the calls of a kernel, over what crosses the border.
-pub record RunsOn (quantum rounds : ℕ) (old : State) (before : BorderState) (new : State)
+pub record RunsOn (config : Config) (rounds : ℕ) (old : State) (before : BorderState) (new : State)
     (after : BorderState) : Type 0 where
   pub crossings : List Crossing
   pub tells : Tells before crossings after
   pub work : ℕ
   pub goes : (o e : List ℕ) (left earlier : ℕ)
-      → GoesOver o e crossings (rounds_of (rounds + left) (sent o e (world_of quantum old)) earlier)
-      (rounds_of left (sent_then crossings o e (world_of quantum new)) (earlier + work))
+      → GoesOver o e crossings
+      (rounds_of config.scheme (rounds + left) (sent o e (world_of config.quantum old)) earlier)
+      (rounds_of config.scheme left (sent_then crossings o e (world_of config.quantum new))
+      (earlier + work))
 
 -- Where the run goes on after so many rounds, they were run.
-abbrev pub HasRunOn : Option Ending → (quantum rounds : ℕ) → State → BorderState → State
+abbrev pub HasRunOn : Option Ending → Config → (rounds : ℕ) → State → BorderState → State
     → BorderState → Type 0
-HasRunOn None quantum rounds old before new after = RunsOn quantum rounds old before new after
-HasRunOn (Some ending) quantum rounds old before new after = ⊤
+HasRunOn None config rounds old before new after = RunsOn config rounds old before new after
+HasRunOn (Some ending) config rounds old before new after = ⊤
 
 -- So many rounds were run from the old state's world to the new one's, over the exchanges and with
 -- the bytes that are told more, and the tally grew by their work.
 pub record RanTo (config : Config) (rounds : ℕ) (old : State) (before : Telling) (new : State)
     (after : Telling) (tally tally_after : ℕ) : Type 0 where
   pub more : ToldMore before after
-  pub runs : RunsTo rounds (world_of config.quantum old) more.exchanges more.output more.error
-      (world_of config.quantum new)
+  pub runs : RunsTo config.scheme rounds (world_of config.quantum old) more.exchanges more.output
+      more.error (world_of config.quantum new)
   pub counted : new.round ≡ old.round + rounds
   pub running : HasNoEnd after.exchanges
   pub grew : GrewBy tally tally_after (work_from (world_of config.quantum old) config

@@ -6,6 +6,7 @@ use Rattle.dos_world.specs.Play.{Answer, asks, gives}
 use Rattle.dos_world.specs.World.{World}
 use Rattle.dos_world.specs.declared.Config.{Config}
 use Rattle.dos_world.specs.declared.Ending.{Ending}
+use Rattle.dos_world.specs.declared.Scheme.{Scheme}
 use Rattle.elf_image.specs.Image.{Image}
 use Rattle.flat_machine.specs.Opening.{opening}
 use Rattle.flat_machine.specs.Round.{finished, round, stalled, went}
@@ -16,21 +17,21 @@ use Rattle.kernel_calls.specs.declared.state.State.{State}
 
 -- Of at most so many rounds, over these answers: each round's own, and where the answers run out in
 -- a round what its parallel phase has run.
-abbrev pub rounds_work : ℕ → World → List Answer → ℕ
-rounds_work zero w answers = 0
-rounds_work (suc n) w answers =
-    elim (round w answers) [
+abbrev pub rounds_work : Scheme → ℕ → World → List Answer → ℕ
+rounds_work scheme zero w answers = 0
+rounds_work scheme (suc n) w answers =
+    elim (round scheme w answers) [
       | gives end rest ↦ elim end [
-        | went next work ↦ work + rounds_work n next rest
+        | went next work ↦ work + rounds_work scheme n next rest
         | finished last ↦ 0
         | stalled last ↦ 0
       ]
-      | asks question output error ↦ begun_work w answers
+      | asks question output error ↦ begun_work scheme w answers
     ]
 
 -- of the rounds that the configuration leaves
 abbrev pub work_from : World → Config → List Answer → ℕ
-work_from w config answers = rounds_work (config.rounds - w.rounds) w answers
+work_from w config answers = rounds_work config.scheme (config.rounds - w.rounds) w answers
 
 -- of the run of these images
 abbrev pub group_work : List Image → Config → List Answer → ℕ

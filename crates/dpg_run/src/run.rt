@@ -61,7 +61,7 @@ pub fn run_next<B: Border, W: Workers>(
     requires running { kernel.old.failed ≡ false }
     requires limit { kernel.old.state.round ≤ kernel.old.config.rounds }
     requires told { HasNoEnd (B.state border.old).shim.told }
-    ensures plays { PlaysNext kernel.old.config.quantum result
+    ensures plays { PlaysNext kernel.old.config result
         kernel.old.state (B.state border.old) kernel.new.state (B.state border.new) }
     ensures some { PlaysSome kernel.old.config result
         kernel.old.state (B.state border.old) kernel.new.state (B.state border.new)
@@ -117,7 +117,7 @@ pub fn run_some<B: Border, W: Workers>(
         (W.tally workers.old) (W.tally workers.new) }
     ensures counted { IfOk result
         (λ ended. IsCountedIn ended rounds kernel.old.state.round kernel.new.state.round) }
-    ensures on { IfOk result (λ ended. HasRunOn ended kernel.old.config.quantum rounds
+    ensures on { IfOk result (λ ended. HasRunOn ended kernel.old.config rounds
         kernel.old.state (B.state border.old) kernel.new.state (B.state border.new)) }
     ensures marked { kernel.new.state.frames.marked ≡ kernel.old.state.frames.marked }
     ensures told { OnOk result (HasNoEnd (B.state border.new).shim.told) }

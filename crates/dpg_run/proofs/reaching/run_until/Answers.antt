@@ -102,7 +102,7 @@ returns-in-Ok-None-clause-reaches g c =
     let left = ap (λ (n : ℕ). c.args.round - n) c.rounds.ensures in
     rw (sym left) (record {
       ran = ran_to config rounds s s' b b' t t' ran
-          (on_rounds c.in-Ok-None.field-0 config.quantum rounds s s' b b'
+          (on_rounds config c.in-Ok-None.field-0 rounds s s' b b'
           c.in-Ok-None.field-0-is some.on) counted some.told;
       stands = (ran.plays 0).goes.stands;
       failed_is = c.run_some.ensures.failed ∙ ap is_err c.in-Ok-None.is;

@@ -27,7 +27,7 @@ returns-in-Ok g c =
     let round = c.in-Ok.ensures.plays in
     let is = sym c.ending_after.ensures in
     record {
-      plays = next_ok config.quantum s s' b b' c.in-Ok.end c.ending_after.result round.work is
+      plays = next_ok config s s' b b' c.in-Ok.end c.ending_after.result round.work is
           round.plays.goes;
       some = some_ok config s s' b b' (g.W.Workers.tally c.args.workers.now)
           (g.W.Workers.tally c.run_round.new.workers)
@@ -48,7 +48,7 @@ returns-in-Ok g c =
           c.in-Ok.ensures.round;
       uncounted = tt;
       marked = c.run_round.ensures.marked;
-      told = plays_told config.quantum (λ w. round_of w)
+      told = plays_told config.quantum (λ w. round_of config.scheme w)
           (λ w. done (end_in c.in-Ok.end round.work w)) s s' b b' round.plays.goes
           c.requires.told;
       sound = c.run_round.ensures.sound;
@@ -67,7 +67,7 @@ returns-in-Err g c =
     let b' = g.B.Border.state c.run_round.new.border in
     let round = c.in-Err.ensures.plays in
     record {
-      plays = next_err config.quantum s s' b b' c.in-Err.stop round.work round.plays;
+      plays = next_err config s s' b b' c.in-Err.stop round.work round.plays;
       some = some_err config s s' b b' (g.W.Workers.tally c.args.workers.now)
           (g.W.Workers.tally c.run_round.new.workers)
           (between_here c.args.kernel.now.state c.state-state.result.now c.args.kernel.now.config

@@ -48,7 +48,7 @@ loop-round-init g c = record {
       (limited_by (c.args.kernel.now.state.round - 1 + c.args.rounds) c.args.kernel.now.config)
       c.args.kernel.now.state (g.B.Border.state c.args.border.now)
       (g.W.Workers.tally c.args.workers.now);
-  on = on_nothing c.args.kernel.now.config.quantum c.args.kernel.now.state
+  on = on_nothing c.args.kernel.now.config c.args.kernel.now.state
       (g.B.Border.state c.args.border.now);
   running = c.requires.running;
   round = sym (with_nothing _);
@@ -202,10 +202,10 @@ loop-round-preserved g c =
           (c.state-state.ensures.sound c.requires.running)).sound.counted.round inv.round
           c.loop-round-test.true
           (where_false c.is_over.result _ _ c.if-is_over.false c.is_over.ensures))));
-      on = on_next c.in_ok-ending.field-0 c.args.kernel.now.config.quantum c.loop-round._round
+      on = on_next c.args.kernel.now.config c.in_ok-ending.field-0 c.loop-round._round
           c.args.kernel.now.state c.loop-round.kernel.state c.run_next.new.kernel.state _ _ _
           c.in_default.is inv.on
-          (subst (λ (k : Config). PlaysNext k.quantum (Ok c.in_ok-ending.field-0)
+          (subst (λ (k : Config). PlaysNext k (Ok c.in_ok-ending.field-0)
           c.loop-round.kernel.state (g.B.Border.state c.loop-round.border)
           c.run_next.new.kernel.state (g.B.Border.state c.run_next.new.border)) inv.config
           c.in_ok-ending.ensures.plays);
@@ -232,7 +232,7 @@ returns g c =
       limited = inv.limited;
       counted = all_counted c.args.kernel.now.state.round c.loop-round.kernel.state.round
           c.loop-round._round c.args.rounds inv.round inv.few c.loop-round-test.false;
-      on = on_all c.args.kernel.now.config.quantum c.loop-round._round c.args.rounds
+      on = on_all c.args.kernel.now.config c.loop-round._round c.args.rounds
           c.args.kernel.now.state c.loop-round.kernel.state _ _ inv.few c.loop-round-test.false
           inv.on;
       marked = inv.marked;

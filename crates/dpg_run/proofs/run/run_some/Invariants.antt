@@ -14,7 +14,7 @@ invariant-loop-round g l = record {
       (Ok None) l.fn.kernel.state (g.B.Border.state l.fn.border) l.kernel.state
       (g.B.Border.state l.border) (g.W.Workers.tally l.fn.workers)
       (g.W.Workers.tally l.workers);
-  on : RunsOn l.fn.kernel.config.quantum l._round l.fn.kernel.state (g.B.Border.state l.fn.border)
+  on : RunsOn l.fn.kernel.config l._round l.fn.kernel.state (g.B.Border.state l.fn.border)
       l.kernel.state (g.B.Border.state l.border);
   running : l.kernel.failed ≡ false;
   round : l.kernel.state.round ≡ l.fn.kernel.state.round + l._round;
