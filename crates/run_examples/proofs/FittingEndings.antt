@@ -33,6 +33,7 @@ another_ending = refl
 
 -- a run that its limit ends
 a_limited_run_fits : Fits (program (0x0000006F ∷ []) ∷ [])
-    (record { quantum = 1000; rounds = 1; frames = 17; scheme = Ownership }) (Signals 1 [] ∷ End Limit 1 ∷ [])
+    (record { quantum = 1000; rounds = 1; frames = 17; scheme = Ownership })
+    (Signals 1 [] ∷ End Limit 1 ∷ [])
 unfolding computing
 a_limited_run_fits = refl

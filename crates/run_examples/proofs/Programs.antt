@@ -29,9 +29,14 @@ program words =
           } ∷ [];
     }
 
--- at most 100000 rounds
+-- at most 100000 rounds, in the ownership scheme
 abbrev pub with_quantum : ℕ → ℕ → Config
-with_quantum quantum frames = record { quantum = quantum; rounds = 100000; frames = frames; scheme = Ownership }
+with_quantum quantum frames = record {
+  quantum = quantum;
+  rounds = 100000;
+  frames = frames;
+  scheme = Ownership;
+}
 
 abbrev pub with_frames : ℕ → Config
 with_frames frames = with_quantum 1000 frames

@@ -4,7 +4,7 @@ use crate::guests::{
     A0, CLOCK, CLOSE, FUTEX, FUTEX_WAIT, FUTEX_WAKE, GET_TID, OTHER, PIPE, READ, ROUND,
     SIG_HANDLER, SIG_MASK, STACK, Step, TEMP0, THREAD_EXIT, THREAD_NEW, WRITE, YIELD,
 };
-use crate::runs::{IN_2, IN_2_TO_6, Posts, Row, USUAL, check_rows, image};
+use crate::runs::{IN_2, IN_2_TO_6, Posts, Row, USUAL, check_buffered, check_rows, image};
 use dos_world::{Config, Ending, Scheme};
 use dpg_run::open_group;
 use group_open::OpenError;
@@ -320,6 +320,15 @@ fn signals_come_from_outside(rt: HostRuntime) {
 #[test]
 fn pages_are_mapped_while_there_are_frames(rt: HostRuntime) {
     check_rows(&rt, rt.alloc(), &FRAMES);
+}
+
+// whose threads tell each other of things by services alone, which are served one after another
+#[test]
+fn services_do_the_same_in_the_buffered_scheme(rt: HostRuntime) {
+    check_buffered(&rt, rt.alloc(), &SLEEPERS);
+    check_buffered(&rt, rt.alloc(), &PIPES);
+    check_buffered(&rt, rt.alloc(), &SIGNALS);
+    check_buffered(&rt, rt.alloc(), &FRAMES);
 }
 
 #[test]

@@ -1,7 +1,7 @@
 //! Tests of the kernel's services and of the signal point, by guests that run as whole groups: the
 //! machine's worked examples, each refusal, what a signal does to a thread in each of its states,
-//! a fork's copy of many pages, and code that is stored while it runs. What each is to answer was
-//! worked out from the rules of the machine.
+//! a fork's copy of many pages, code that is stored while it runs, and what services see of memory
+//! in each scheme. What each is to answer was worked out from the rules of the machine.
 #![tactic(auto)]
 
 #[cfg(test)]
@@ -18,5 +18,7 @@ mod pages;
 mod refusals;
 #[cfg(test)]
 mod runs;
+#[cfg(test)]
+mod schemes;
 #[cfg(test)]
 mod signals;

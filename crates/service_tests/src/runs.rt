@@ -59,6 +59,7 @@ pub const IN_2_TO_6: Posts = Posts {
 pub struct Row {
     pub quantum: u32,
     pub frames: u32,
+    pub scheme: Scheme,
     pub posts: Posts,
     pub guest: &'static [&'static [Step]],
     pub told: &'static [i32],
@@ -66,10 +67,11 @@ pub struct Row {
     pub report: &'static str,
 }
 
-/// A row of a guest that does and tells nothing, under the usual numbers.
+/// A row of a guest that does and tells nothing, under the usual numbers in the ownership scheme.
 pub const USUAL: Row = Row {
     quantum: 1000,
     frames: 4096,
+    scheme: Scheme::Ownership,
     posts: NOTHING,
     guest: &[],
     told: &[],
@@ -84,7 +86,7 @@ fn config_of(row: &Row) -> Config
         quantum: row.quantum.clamp(16, 65536),
         rounds: 100_000,
         frames: row.frames.clamp(16, 16384),
-        scheme: Scheme::Ownership,
+        scheme: row.scheme,
     }
 }
 
@@ -220,6 +222,17 @@ fn check_row<R: Threads + Sync + Abort>(rt: &R, alloc: Global, row: &Row) {
     drop(told);
     drop(out);
     drop(err);
+}
+
+/// Runs the guests of these rows in the buffered scheme, in which they leave what the rows say too.
+pub fn check_buffered<R: Threads + Sync + Abort>(rt: &R, alloc: Global, rows: &[Row]) {
+    for row in rows {
+        let buffered = Row {
+            scheme: Scheme::Buffered,
+            ..*row
+        };
+        check_row(rt, alloc, &buffered);
+    }
 }
 
 /// Runs the guests of these rows, one after another. The first that leaves something else fails.
