@@ -12,7 +12,6 @@ ghost use Rattle.log_text.specs.LogText.{logtext};
 ghost use Rattle.log_text.specs.Ranges.{FitsLog};
 ghost use Rattle.dos_texts.specs.Exit.{ending_status};
 ghost use Rattle.dos_words.specs.declared.request.Request.TheVariants as requests;
-ghost use Rattle.dos_world.specs.declared.Scheme.{Scheme};
 ghost use Rattle.dos_cmd.specs.Asking.{Asks, files_named, named_by};
 ghost use Rattle.debug_connection.specs.Keeping.{texts_of};
 ghost use Rattle.dos_cmd.specs.Judging.{agreed, contents_of, replay_judgement};
@@ -57,9 +56,9 @@ pub(crate) fn read<F: Files>(alloc: Global, files: &mut F, name: &Text) -> Resul
     }
 }
 
-/// What a log's run was given.
-pub(crate) fn config_of(log: &Log) -> Config
-    ensures config { result ≡ config_of log.now.header }
+/// What a log's run is given, by this scheme.
+pub(crate) fn config_of(scheme: Scheme, log: &Log) -> Config
+    ensures config { result ≡ config_of scheme log.now.header }
     ensures range { IsConfig result }
 {
     let _len = log.len();
@@ -68,7 +67,7 @@ pub(crate) fn config_of(log: &Log) -> Config
         quantum: header.quantum,
         rounds: header.rounds,
         frames: header.frames,
-        scheme: Scheme::Ownership,
+        scheme,
     }
 }
 
@@ -111,6 +110,7 @@ pub(crate) fn take<F: Files>(
 /// Replays a log with these images, and puts the report.
 fn replay_taken<O: Sink, E: Sink, W: Workers>(
     alloc: Global,
+    scheme: Scheme,
     log: Log,
     images: &[Image],
     out: &mut O,
@@ -139,7 +139,7 @@ fn replay_taken<O: Sink, E: Sink, W: Workers>(
     ensures err_steady { result ≢ Err Refusal.Sink → E.faults err.new ≡ E.faults err.old }
     ensures fixed { W.fixed workers.new ≡ W.fixed workers.old }
 {
-    let mut kernel = open(alloc, images, config_of(&log))?;
+    let mut kernel = open(alloc, images, config_of(scheme, &log))?;
     match replay_group(&mut kernel, log, out, err, workers) {
         Ok(ending) => {
             let ended = report(&kernel, ending, err);
@@ -156,6 +156,7 @@ fn replay_taken<O: Sink, E: Sink, W: Workers>(
 /// Does what `replay` is asked for.
 pub(crate) fn replay<F: Files, O: Sink, E: Sink, W: Workers>(
     alloc: Global,
+    scheme: Scheme,
     log: &Text,
     names: &Names,
     files: &mut F,
@@ -165,24 +166,24 @@ pub(crate) fn replay<F: Files, O: Sink, E: Sink, W: Workers>(
 ) -> Result<Ending, Refusal>
     requires { length names.now ≤ 8 }
     // whatever a host tells, and however often it failed
-    ensures did { (n : ℕ) (s : Scheme) (h : HostSeen) → IfOk result (λ ending.
-        Begun (requests.Replay n s log.now names.now)
+    ensures did { (n : ℕ) (h : HostSeen) → IfOk result (λ ending.
+        Begun (requests.Replay n scheme log.now names.now)
         (outside (F.tells files.old) (F.content files.old) (F.content files.new) h h
         (O.told out.old) (O.told out.new) (E.told err.old) (E.told err.new)
         (W.tally workers.old) (W.tally workers.new))
-        (λ taken. Did (requests.Replay n s log.now names.now) taken (ending_status ending)
+        (λ taken. Did (requests.Replay n scheme log.now names.now) taken (ending_status ending)
         (outside (F.tells files.old) (F.content files.old) (F.content files.new) h h
         (O.told out.old) (O.told out.new) (E.told err.old) (E.told err.new)
         (W.tally workers.old) (W.tally workers.new)))) }
-    ensures leaves { (n : ℕ) (s : Scheme) (h : HostSeen) (m : ℕ) → IfErr result (λ why.
-        Leaves (requests.Replay n s log.now names.now)
+    ensures leaves { (n : ℕ) (h : HostSeen) (m : ℕ) → IfErr result (λ why.
+        Leaves (requests.Replay n scheme log.now names.now)
         (outside (F.tells files.old) (F.content files.old) (F.content files.new) h h
         (O.told out.old) (O.told out.new) (E.told err.old) (E.told err.new)
         (W.tally workers.old) (W.tally workers.new))
         (faults (F.faults files.old) (F.faults files.new) m m (O.faults out.old) (O.faults out.new)
         (E.faults err.old) (E.faults err.new)) why []) }
-    ensures asked { (n : ℕ) (s : Scheme)
-        → Asks (named_by (requests.Replay n s log.now names.now)) result (F.asked files.old)
+    ensures asked { (n : ℕ)
+        → Asks (named_by (requests.Replay n scheme log.now names.now)) result (F.asked files.old)
         (F.asked files.new) }
     ensures files_later { F.faults files.old ≤ F.faults files.new }
     ensures out_later { O.faults out.old ≤ O.faults out.new }
@@ -193,5 +194,5 @@ pub(crate) fn replay<F: Files, O: Sink, E: Sink, W: Workers>(
 {
     let (log, images, contents) = take(alloc, files, log, names)?;
     drop(contents);
-    replay_taken(alloc, log, &images, out, err, workers)
+    replay_taken(alloc, scheme, log, &images, out, err, workers)
 }

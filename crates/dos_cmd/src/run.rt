@@ -13,7 +13,6 @@ ghost use Rattle.logged_runs.specs.Opened.{IsOpenedWith};
 ghost use Rattle.logged_runs.specs.Recording.{host_seen};
 ghost use Rattle.shim_log.specs.Ledger.{ArePlanned, empty_ledger};
 ghost use Rattle.dos_texts.specs.Exit.{ending_status};
-ghost use Rattle.dos_world.specs.declared.Scheme.{Scheme};
 ghost use Rattle.dos_cmd.specs.Asking.{Asks, files_named, named_by};
 ghost use Rattle.dos_cmd.specs.Judging.{digests_of};
 ghost use Rattle.dos_cmd.specs.Outside.{outside, faults};
@@ -39,7 +38,7 @@ use shim_log::Ledger;
 use std::alloc::Global;
 use worker_pool::Workers;
 
-/// What `run` is asked for, but for its workers and its scheme.
+/// What `run` is asked for, but for its workers.
 #[derive(Drop)]
 pub(crate) struct RunRequest<'a> {
     pub(crate) config: Config,
@@ -331,21 +330,21 @@ pub(crate) fn run<F: Files, H: Host, O: Sink, E: Sink, W: Workers>(
     requires few { length request.now.names.now ≤ 8 }
     requires few_posts { length request.now.posts.now ≤ 32 }
     requires planned { ArePlanned request.now.posts.now }
-    ensures did { (n : ℕ) (s : Scheme) → IfOk result (λ ending.
-        Begun (run_request request.now n s)
+    ensures did { (n : ℕ) → IfOk result (λ ending.
+        Begun (run_request request.now n)
         (outside (F.tells files.old) (F.content files.old) (F.content files.new)
         (host_seen (H.told host.old) (H.asked host.old))
         (host_seen (H.told host.new) (H.asked host.new)) (O.told out.old) (O.told out.new)
         (E.told err.old) (E.told err.new)
         (W.tally workers.old) (W.tally workers.new))
-        (λ taken. Did (run_request request.now n s) taken (ending_status ending)
+        (λ taken. Did (run_request request.now n) taken (ending_status ending)
         (outside (F.tells files.old) (F.content files.old) (F.content files.new)
         (host_seen (H.told host.old) (H.asked host.old))
         (host_seen (H.told host.new) (H.asked host.new)) (O.told out.old) (O.told out.new)
         (E.told err.old) (E.told err.new)
         (W.tally workers.old) (W.tally workers.new)))) }
-    ensures leaves { (n : ℕ) (s : Scheme) → IfErr result (λ why.
-        Leaves (run_request request.now n s)
+    ensures leaves { (n : ℕ) → IfErr result (λ why.
+        Leaves (run_request request.now n)
         (outside (F.tells files.old) (F.content files.old) (F.content files.new)
         (host_seen (H.told host.old) (H.asked host.old))
         (host_seen (H.told host.new) (H.asked host.new)) (O.told out.old) (O.told out.new)
@@ -353,7 +352,7 @@ pub(crate) fn run<F: Files, H: Host, O: Sink, E: Sink, W: Workers>(
         (W.tally workers.old) (W.tally workers.new))
         (faults (F.faults files.old) (F.faults files.new) (H.faults host.old) (H.faults host.new)
         (O.faults out.old) (O.faults out.new) (E.faults err.old) (E.faults err.new)) why []) }
-    ensures asked { (n : ℕ) (s : Scheme) → Asks (named_by (run_request request.now n s)) result
+    ensures asked { (n : ℕ) → Asks (named_by (run_request request.now n)) result
         (F.asked files.old) (F.asked files.new) }
     ensures files_later { F.faults files.old ≤ F.faults files.new }
     ensures host_later { H.faults host.old ≤ H.faults host.new }

@@ -23,7 +23,7 @@ use crate::stops::refusal_by;
 use dos_io::{Files, Sink};
 use dos_texts::{Refusal, put_saved};
 use dos_words::{Names, Text};
-use dos_world::Ending;
+use dos_world::{Ending, Scheme};
 use elf_image::Image;
 use group_rounds::Kernel;
 use group_save::record_group;
@@ -165,7 +165,7 @@ fn save_taken<F: Files, O: Sink, E: Sink, W: Workers>(
     ensures err_steady { result ≢ Err Refusal.Sink → E.faults err.new ≡ E.faults err.old }
     ensures fixed { W.fixed workers.new ≡ W.fixed workers.old }
 {
-    let mut kernel = open(alloc, images, config_of(&log))?;
+    let mut kernel = open(alloc, images, config_of(Scheme::Ownership, &log))?;
     let digest = match digest(alloc, &log) {
         Ok(digest) => digest,
         Err(why) => {

@@ -100,6 +100,7 @@ fn execute<F: Files, H: Host, O: Sink, E: Sink, W: Workers>(
             quantum,
             rounds,
             frames,
+            scheme,
             posts,
             clock_from,
             clock_step,
@@ -122,9 +123,12 @@ fn execute<F: Files, H: Host, O: Sink, E: Sink, W: Workers>(
             };
             run(alloc, &asked, files, host, out, err, workers)
         }
-        Request::Replay { log, names, .. } => {
-            replay(alloc, log, names, files, out, err, workers)
-        }
+        Request::Replay {
+            scheme,
+            log,
+            names,
+            ..
+        } => replay(alloc, *scheme, log, names, files, out, err, workers),
         Request::Inspect { name } => inspect(alloc, name.as_str(), files, out),
         Request::Gen {
             number,

@@ -16,7 +16,7 @@ use crate::stops::refusal_by;
 use dos_io::{Files, Sink};
 use dos_texts::Refusal;
 use dos_words::{Names, Text};
-use dos_world::Ending;
+use dos_world::{Ending, Scheme};
 use elf_image::Image;
 use log_text::Log;
 use page_trace::TraceStop;
@@ -66,7 +66,7 @@ fn trace_taken<O: Sink, E: Sink, W: Workers>(
     ensures err_steady { result ≢ Err Refusal.Sink → E.faults err.new ≡ E.faults err.old }
     ensures fixed { W.fixed workers.new ≡ W.fixed workers.old }
 {
-    let mut kernel = open(alloc, images, config_of(&log))?;
+    let mut kernel = open(alloc, images, config_of(Scheme::Ownership, &log))?;
     match trace_log(alloc, &mut kernel, log, out, workers) {
         Ok(ending) => {
             let ended = report(&kernel, ending, err);
