@@ -16,6 +16,7 @@ use Rattle.log_files.specs.declared.refusal.LogRefusal.{LogRefusal}
 use Rattle.log_files.specs.declared.refusal.LogRefusal.TheVariants as logs
 use Rattle.log_text.specs.LogText.{Log}
 use Rattle.dos_world.specs.declared.Ending.{Ending}
+use Rattle.dos_world.specs.declared.Scheme.{Scheme}
 use Rattle.dos_texts.specs.declared.refusal.Refusal.{Refusal}
 use Rattle.dos_texts.specs.declared.refusal.Refusal.TheVariants as refusals
 use Rattle.dos_words.specs.Numbers.{Text}
@@ -301,13 +302,13 @@ later_run asked images o f refusals.LogFull h = tt
 later_run asked images o f refusals.Memory h = tt
 later_run asked images o f why h = absurd h
 
-pub later_replay : (log : Log) (images : List Image) (o : Outside) (f : Faults) (why : Refusal)
-    → LeavesTaken log images o f why → IsLater why
-later_replay log images o f (refusals.NoRoom n frames) h = tt
-later_replay log images o f (refusals.Misfit found) h = tt
-later_replay log images o f refusals.Sink h = tt
-later_replay log images o f refusals.Memory h = tt
-later_replay log images o f why h = absurd h
+pub later_replay : (scheme : Scheme) (log : Log) (images : List Image) (o : Outside) (f : Faults)
+    (why : Refusal) → LeavesTaken scheme log images o f why → IsLater why
+later_replay scheme log images o f (refusals.NoRoom n frames) h = tt
+later_replay scheme log images o f (refusals.Misfit found) h = tt
+later_replay scheme log images o f refusals.Sink h = tt
+later_replay scheme log images o f refusals.Memory h = tt
+later_replay scheme log images o f why h = absurd h
 
 pub later_trace : (log : Log) (images : List Image) (o : Outside) (f : Faults) (why : Refusal)
     → LeavesTrace log images o f why → IsLater why

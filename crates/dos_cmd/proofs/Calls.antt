@@ -26,6 +26,7 @@ use Rattle.dos_words.specs.Numbers.{Text}
 use Rattle.dos_words.specs.Request.{request}
 use Rattle.dos_words.specs.declared.request.Request.{Request}
 use Rattle.dos_world.specs.declared.Scheme.{Scheme}
+use Rattle.dos_world.specs.declared.Scheme.TheVariants.{Ownership}
 use Rattle.dos_words.specs.declared.request.Request.TheVariants.{Run, Replay, Gen, Migrate}
 use Rattle.dos_words.specs.declared.request.Request.TheVariants.{Save, Resume}
 use Rattle.dos_words.specs.declared.request.Request.TheVariants.{Trace}
@@ -124,26 +125,26 @@ replayed_must : (words : List Text) (w : ℕ) (s : Scheme) (log : Text) (names :
     → MustDo (Replay w s log names) taken n o
 replayed_must words w s log names taken n o h = of_log taken.log h
   where
-    of_log : (read : Option Log) → OfLog read (λ l. DidReplay l taken.images n o)
-        → OfLog read (λ l. MustReplay (misfit taken.images (config_of l.header) (exchanges l)) l
-        taken n o)
+    of_log : (read : Option Log) → OfLog read (λ l. DidReplay s l taken.images n o)
+        → OfLog read (λ l. MustReplay (misfit taken.images (config_of s l.header) (exchanges l)) s
+        l taken n o)
     of_log None h = absurd h
     of_log (Some l) h =
-        let none : misfit taken.images (config_of l.header) (exchanges l) ≡ None =
-        fits_have_none 0 (exchanges l) (group taken.images (config_of l.header)) h.replayed.fits in
-        subst (λ (m : Option Misfit). MustReplay m l taken n o) (sym none) h
+        let none : misfit taken.images (config_of s l.header) (exchanges l) ≡ None =
+        fits_have_none 0 (exchanges l) (group taken.images (config_of s l.header)) h.replayed.fits in
+        subst (λ (m : Option Misfit). MustReplay m s l taken n o) (sym none) h
 
 traced_must : (w : ℕ) (log : Text) (names : List Text) (taken : Taken) (n : ℕ) (o : Outside)
     → Did (Trace w log names) taken n o → MustDo (Trace w log names) taken n o
 traced_must w log names taken n o h = of_log taken.log h
   where
     of_log : (read : Option Log) → OfLog read (λ l. DidTrace l taken.images n o)
-        → OfLog read (λ l. MustTrace (misfit taken.images (config_of l.header) (exchanges l)) l
+        → OfLog read (λ l. MustTrace (misfit taken.images (config_of Ownership l.header) (exchanges l)) l
         taken n o)
     of_log None h = absurd h
     of_log (Some l) h =
-        let none : misfit taken.images (config_of l.header) (exchanges l) ≡ None =
-        fits_have_none 0 (exchanges l) (group taken.images (config_of l.header)) h.replayed.fits in
+        let none : misfit taken.images (config_of Ownership l.header) (exchanges l) ≡ None =
+        fits_have_none 0 (exchanges l) (group taken.images (config_of Ownership l.header)) h.replayed.fits in
         subst (λ (m : Option Misfit). MustTrace m l taken n o) (sym none) h
 
 saved_must : (w : ℕ) (log : Text) (round : ℕ) (to : Text) (names : List Text) (taken : Taken)
@@ -157,11 +158,11 @@ saved_must w log round to names taken n o h = of_log taken.log h
     by_misfit (Some found) l h = inl h
 
     of_log : (read : Option Log) → OfLog read (λ l. DidSave l taken.images round to n o)
-        → OfLog read (λ l. MustSave (misfit taken.images (config_of l.header) (exchanges l)) l
+        → OfLog read (λ l. MustSave (misfit taken.images (config_of Ownership l.header) (exchanges l)) l
         taken round to n o)
     of_log None h = absurd h
     of_log (Some l) h =
-        by_misfit (misfit taken.images (config_of l.header) (exchanges l)) l h
+        by_misfit (misfit taken.images (config_of Ownership l.header) (exchanges l)) l h
 
 -- of a saved group, as far as it is there
 abbrev GroupMust : ℕ → Outside → SavedGroup → Log → Type 0
@@ -245,17 +246,17 @@ misfit_must : (asked : Request) (taken : Taken) (found : Misfit) (n : ℕ) (o : 
 misfit_must (Replay w s log names) taken found n o is h = of_log taken.log h
   where
     of_log : (read : Option Log)
-        → OfLog read (λ l. Misfitted l taken.images found (line_of (refusals.Misfit found)) o)
-        → OfLog read (λ l. MustReplay (misfit taken.images (config_of l.header) (exchanges l)) l
-        taken n o)
+        → OfLog read (λ l. Misfitted s l taken.images found (line_of (refusals.Misfit found)) o)
+        → OfLog read (λ l. MustReplay (misfit taken.images (config_of s l.header) (exchanges l)) s
+        l taken n o)
     of_log None h = absurd h
     of_log (Some l) h =
-        subst (λ (m : Option Misfit). MustReplay m l taken n o) (sym h.replayed.is) (is, h)
+        subst (λ (m : Option Misfit). MustReplay m s l taken n o) (sym h.replayed.is) (is, h)
 misfit_must (Trace w log names) taken found n o is h = of_log taken.log h
   where
     of_log : (read : Option Log)
         → OfLog read (λ l. MisfittedTrace l taken.images found (line_of (refusals.Misfit found)) o)
-        → OfLog read (λ l. MustTrace (misfit taken.images (config_of l.header) (exchanges l)) l
+        → OfLog read (λ l. MustTrace (misfit taken.images (config_of Ownership l.header) (exchanges l)) l
         taken n o)
     of_log None h = absurd h
     of_log (Some l) h =
@@ -265,7 +266,7 @@ misfit_must (Save w log round to names) taken found n o is h = of_log taken.log 
     of_log : (read : Option Log)
         → OfLog read (λ l. MisfittedSave l taken.images round found
         (line_of (refusals.Misfit found)) o)
-        → OfLog read (λ l. MustSave (misfit taken.images (config_of l.header) (exchanges l)) l
+        → OfLog read (λ l. MustSave (misfit taken.images (config_of Ownership l.header) (exchanges l)) l
         taken round to n o)
     of_log None h = absurd h
     of_log (Some l) h =

@@ -52,14 +52,14 @@ of_files why P Q step h = absurd h
 
 -- ---- room
 
-pub has_room : (config : Config) (images : List Image) → needed images ≤ config.frames
-    → with_room config (Ok images) ≡ Ok images
-has_room config images fits = rw (le-ltb config.frames (needed images) fits) refl
+pub has_room : (frames : ℕ) (images : List Image) → needed images ≤ frames
+    → with_room frames (Ok images) ≡ Ok images
+has_room frames images fits = rw (le-ltb frames (needed images) fits) refl
 
-pub no_room : (config : Config) (images : List Image) → config.frames < needed images
-    → with_room config (Ok images) ≡ Err (refusals.NoRoom (needed images) config.frames)
-no_room config images over =
-    let more : nat_lt config.frames (needed images) ≡ true = grind (arith, nat_tests) in
+pub no_room : (frames : ℕ) (images : List Image) → frames < needed images
+    → with_room frames (Ok images) ≡ Err (refusals.NoRoom (needed images) frames)
+no_room frames images over =
+    let more : nat_lt frames (needed images) ≡ true = grind (arith, nat_tests) in
     rw more refl
 
 pub no_room_so : (n frames needs has : ℕ) → n ≡ needs → frames ≡ has

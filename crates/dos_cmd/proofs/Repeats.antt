@@ -6,8 +6,8 @@ use Rattle.std.specs.Prelude.{◌++◌, IfSome, IsTrue, nat_lt, option_and_then,
 use Rattle.std.proofs.lemmas.Bool.{eq-eqb}
 use Rattle.std.proofs.lemmas.Bool.Decides.{nat_tests}
 use Rattle.std.proofs.lemmas.Slice.Eq.{bytes_eq-Decides}
-use Rattle.dos_world.specs.declared.Config.{Config}
 use Rattle.dos_world.specs.declared.Misfit.{Misfit}
+use Rattle.dos_world.specs.declared.Scheme.{Scheme}
 use Rattle.dos_io.specs.Exchanges.{answer_of}
 use Rattle.elf_image.specs.Image.{Image}
 use Rattle.flat_machine.specs.Machine.{Ran, Seen, ends, machine}
@@ -83,25 +83,25 @@ abbrev images_ok : List Image → Images
 images_ok images = Ok images
 
 -- what a run's images are taken for has room
-run_taken : (config : Config) (found : Images) (taken : Taken)
-    → of_images (with_room config found) ≡ Ok taken
-    → (found ≡ Ok taken.images) × (needed taken.images ≤ config.frames)
-run_taken config (Err why) taken is = absurd cc
-run_taken config (Ok images) taken is =
-    by_test (nat_lt config.frames (needed images)) refl is
+run_taken : (frames : ℕ) (found : Images) (taken : Taken)
+    → of_images (with_room frames found) ≡ Ok taken
+    → (found ≡ Ok taken.images) × (needed taken.images ≤ frames)
+run_taken frames (Err why) taken is = absurd cc
+run_taken frames (Ok images) taken is =
+    by_test (nat_lt frames (needed images)) refl is
   where
-    by_test : (b : Bool) → nat_lt config.frames (needed images) ≡ b
-        → of_images (with_room config (Ok images)) ≡ Ok taken
-        → (images_ok images ≡ images_ok taken.images) × (needed taken.images ≤ config.frames)
+    by_test : (b : Bool) → nat_lt frames (needed images) ≡ b
+        → of_images (with_room frames (Ok images)) ≡ Ok taken
+        → (images_ok images ≡ images_ok taken.images) × (needed taken.images ≤ frames)
     by_test true over is =
-        let refused : of_images (with_room config (Ok images))
-        ≡ Err (refusals.NoRoom (needed images) config.frames) = rw over refl in
+        let refused : of_images (with_room frames (Ok images))
+        ≡ Err (refusals.NoRoom (needed images) frames) = rw over refl in
         absurd cc
     by_test false fits is =
-        let kept : of_images (with_room config (Ok images))
+        let kept : of_images (with_room frames (Ok images))
         ≡ Ok (taken_images images) = rw fits refl in
         let same : images ≡ taken.images = cc in
-        (ap images_ok same, subst (λ i. needed i ≤ config.frames) same (grind (arith, nat_tests)))
+        (ap images_ok same, subst (λ i. needed i ≤ frames) same (grind (arith, nat_tests)))
 
 abbrev judged_as : Judgement → Option Judgement
 judged_as j = Some j
@@ -123,7 +123,7 @@ taken_again log images files ds told is accepted digests found kept fits =
     ∙ ap (λ d. with_images log d (Ok images)) digests
     ∙ ap (λ k. judged_as (agreed log images (disagreement ds k))) kept
     ∙ ap (λ n. judged_as (agreed log images n)) (no_difference ds)
-    ∙ ap (λ i. judged_as (of_log log i)) (has_room (config_of log.header) images fits)
+    ∙ ap (λ i. judged_as (of_log log i)) (has_room log.header.frames images fits)
 
 -- ---- the two calls
 
@@ -142,22 +142,25 @@ module _ (o p : Outside) (asked : RunAsked) (images : List Image) (status n : �
       ∙ subst (λ (t : Option (List (List ℕ))). IfSome t
       (λ digests. did.was.plan.header.digests ≡ digests)) told did.was.planned.digests_are
 
-  again : Replayed images did.log did.seen
-      × (misfit images (config_of did.log.header) (exchanges did.log) ≡ None)
-  again = subst (λ (i : List Image). Replayed i did.log did.seen
-      × (misfit i (config_of did.log.header) (exchanges did.log) ≡ None))
+  abbrev scheme : Scheme
+  scheme = asked.config.scheme
+
+  again : Replayed scheme images did.log did.seen
+      × (misfit images (config_of scheme did.log.header) (exchanges did.log) ≡ None)
+  again = subst (λ (i : List Image). Replayed scheme i did.log did.seen
+      × (misfit i (config_of scheme did.log.header) (exchanges did.log) ≡ None))
       did.was.planned.images_are
-      (recording_replays did.was.plan o.host o.host_after did.log did.seen did.was.recorded
-      (did.was.planned.config_is ∙ sym (ap config_of did.was.planned.header_is)))
+      (recording_replays scheme did.was.plan o.host o.host_after did.log did.seen did.was.recorded
+      (did.was.planned.config_is ∙ sym (ap (config_of scheme) did.was.planned.header_is)))
 
   -- a replay of its log
-  shown_again : MustReplay (misfit images (config_of did.log.header) (exchanges did.log)) did.log
-      (taken_log did.log images) n p → ShowTheSame status o n p
+  shown_again : MustReplay (misfit images (config_of scheme did.log.header) (exchanges did.log))
+      scheme did.log (taken_log did.log images) n p → ShowTheSame status o n p
   shown_again must =
-      let replay : DidReplay did.log images n p = subst (λ (m : Option Misfit). MustReplay m did.log
-      (taken_log did.log images) n p) again.1 must in
+      let replay : DidReplay scheme did.log images n p = subst (λ (m : Option Misfit). MustReplay m
+      scheme did.log (taken_log did.log images) n p) again.1 must in
       let same : did.seen ≡ replay.seen = same_seen
-      (machine images (config_of did.log.header) (map answer_of (exchanges did.log))) did.seen
+      (machine images (config_of scheme did.log.header) (map answer_of (exchanges did.log))) did.seen
       replay.seen again.0.is replay.replayed.is in
       record {
         status_is = replay.status_is ∙ sym (ap (λ (s : Seen). ending_status s.ending) same)
@@ -191,18 +194,18 @@ pub repeats : (first words : List Text) (status n : ℕ) (o p : Outside) → Was
     → judgement p.files asked ≡ Some (Ok taken) → MustDo asked taken n p)
     → ShowTheSame status o n p
 repeats first words status n o p done s must =
-    let asked : Request = run_asked_with s.asked s.workers s.scheme in
+    let asked : Request = run_asked_with s.asked s.workers in
     let begun : Begun asked o (λ taken. Did asked taken status o) =
     subst (λ (a : Request). Begun a o (λ taken. Did a taken status o))
     (asked_once first done.asked asked done.asks s.asks_run) done.begun in
     let images : List Image = begun.taken.images in
     let found = images_told 1 (map o.files s.asked.names) s.digests s.are_there in
-    let taken = run_taken s.asked.config found.0 begun.taken
+    let taken = run_taken s.asked.config.frames found.0 begun.taken
     (subst (λ (t : Option Images). IfSome
-    (option_map (λ i. of_images (with_room s.asked.config i)) t) (λ j. j ≡ Ok begun.taken)) found.1
+    (option_map (λ i. of_images (with_room s.asked.config.frames i)) t) (λ j. j ≡ Ok begun.taken)) found.1
     begun.is) in
     shown_again o p s.asked images status n begun.so
-    (must (Replay s.workers_again s.scheme s.log s.names)
+    (must (Replay s.workers_again s.asked.config.scheme s.log s.names)
     (taken_log begun.so.log images) s.asks_replay
     (files_again o p s.asked images status n begun.so s.log s.names s.digests found.0 s.all_told
     s.are_there found.1 taken.0 taken.1 s.same_log s.same_images))

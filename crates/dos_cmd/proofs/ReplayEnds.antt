@@ -39,23 +39,23 @@ use Rattle.dos_cmd.proofs.RunEnds.{then_rose}
 
 -- ---- it isn't opened
 
-pub not_opened : (log : Log) (images : List Image) (o : Outside) (f : Faults) (why : Refusal)
-    (config : Config) → config ≡ config_of log.header → IsNotOpened images config why → Says o []
-    → LeavesTaken log images o f why
-not_opened log images o f why config is h says =
-    not_opened_as images (config_of log.header) why (λ (w : Refusal). LeavesTaken log images o f w)
+pub not_opened : (scheme : Scheme) (log : Log) (images : List Image) (o : Outside) (f : Faults) (why : Refusal)
+    (config : Config) → config ≡ config_of scheme log.header → IsNotOpened images config why → Says o []
+    → LeavesTaken scheme log images o f why
+not_opened scheme log images o f why config is h says =
+    not_opened_as images (config_of scheme log.header) why (λ (w : Refusal). LeavesTaken scheme log images o f w)
     (subst (λ (c : Config). IsNotOpened images c why) is h) (λ over. (refl, refl, over, says)) says
 
 -- the log's frames
-pub has_room : (log : Log) (images : List Image) (config : Config)
-    → config ≡ config_of log.header → needed images ≤ config.frames
+pub has_room : (scheme : Scheme) (log : Log) (images : List Image) (config : Config)
+    → config ≡ config_of scheme log.header → needed images ≤ config.frames
     → needed images ≤ log.header.frames
-has_room log images config is fits = subst (λ (c : Config). needed images ≤ c.frames) is fits
+has_room scheme log images config is fits = subst (λ (c : Config). needed images ≤ c.frames) is fits
 
-pub opened_by : (log : Log) (images : List Image) (kernel : Held) (config : Config)
-    → config ≡ config_of log.header → IsOpenedWith kernel images config
-    → IsOpenedWith kernel images (config_of log.header)
-opened_by log images kernel config is opened =
+pub opened_by : (scheme : Scheme) (log : Log) (images : List Image) (kernel : Held) (config : Config)
+    → config ≡ config_of scheme log.header → IsOpenedWith kernel images config
+    → IsOpenedWith kernel images (config_of scheme log.header)
+opened_by scheme log images kernel config is opened =
     subst (λ (c : Config). IsOpenedWith kernel images c) is opened
 
 pub on_ok : {T E : Type 0} (r : Result T E) (P : Type 0) → P → OnOk r P
@@ -65,23 +65,23 @@ on_ok (Err e) P p = tt
 -- ---- a run that stopped
 
 -- it came to the log's misfit, and this was left by then
-abbrev pub Until : Log → List Image → Outside → Misfit → Type 0
-Until log images o found = (output : List ℕ) × (error : List ℕ) × (work : ℕ)
-    × ReplayedUntil images log found output error work
+abbrev pub Until : Scheme → Log → List Image → Outside → Misfit → Type 0
+Until scheme log images o found = (output : List ℕ) × (error : List ℕ) × (work : ℕ)
+    × ReplayedUntil scheme images log found output error work
     × Halted o.out o.err o.out_after o.err_after o.tally o.tally_after output error work
 
-pub replay_stopped : (log : Log) (images : List Image) (o : Outside) (f : Faults) (stop : RunStop)
+pub replay_stopped : (scheme : Scheme) (log : Log) (images : List Image) (o : Outside) (f : Faults) (stop : RunStop)
     (why : Refusal) → why ≡ refusal_by stop → needed images ≤ log.header.frames → StopsReplay stop
-    → ((found : Misfit) → stop ≡ stops.Misfit found → Until log images o found)
+    → ((found : Misfit) → stop ≡ stops.Misfit found → Until scheme log images o found)
     → ((output : List ℕ) × (error : List ℕ) × (work : ℕ)
-    × ReplayedAhead images log output error work
+    × ReplayedAhead scheme images log output error work
     × Halted o.out o.err o.out_after o.err_after o.tally o.tally_after output error work)
     → HasSinkCause stop f.out f.out_after f.err f.err_after → StaysAll o
-    → LeavesTaken log images o f why
-replay_stopped log images o f stop why is fits only until ahead sink stay =
-    subst (λ (w : Refusal). LeavesTaken log images o f w) (sym is) (by_stop stop only until sink)
+    → LeavesTaken scheme log images o f why
+replay_stopped scheme log images o f stop why is fits only until ahead sink stay =
+    subst (λ (w : Refusal). LeavesTaken scheme log images o f w) (sym is) (by_stop stop only until sink)
   where
-    cut : CutReplay log images o
+    cut : CutReplay scheme log images o
     cut = record {
       output = ahead.0;
       error = ahead.1;
@@ -93,9 +93,9 @@ replay_stopped log images o f stop why is fits only until ahead sink stay =
     }
 
     by_stop : (stop : RunStop) → StopsReplay stop
-        → ((found : Misfit) → stop ≡ stops.Misfit found → Until log images o found)
+        → ((found : Misfit) → stop ≡ stops.Misfit found → Until scheme log images o found)
         → HasSinkCause stop f.out f.out_after f.err f.err_after
-        → LeavesTaken log images o f (refusal_by stop)
+        → LeavesTaken scheme log images o f (refusal_by stop)
     by_stop stops.OutFault only until sink = (fits, inl sink, inl cut)
     by_stop stops.ErrFault only until sink = (fits, inr sink, inl cut)
     by_stop (stops.Misfit found) only until sink =
@@ -119,20 +119,20 @@ replay_stopped log images o f stop why is fits only until ahead sink stay =
 -- ---- a run that came to its end
 
 -- what is seen of it, and what was put by then
-abbrev pub Whole : (kernel after : Held) → Log → Ending
+abbrev pub Whole : Scheme → (kernel after : Held) → Log → Ending
     → (out err out_after err_then : Option (List ℕ)) → (tally tally_after : ℕ) → Type 0
-Whole kernel after log ending out err out_after err_then tally tally_after =
-    (i : List Image) → IsOpenedWith kernel i (config_of log.header) → (seen : Seen)
-    × Replayed i log seen × Ended after ending seen out err out_after err_then tally tally_after
+Whole scheme kernel after log ending out err out_after err_then tally tally_after =
+    (i : List Image) → IsOpenedWith kernel i (config_of scheme log.header) → (seen : Seen)
+    × Replayed scheme i log seen × Ended after ending seen out err out_after err_then tally tally_after
 
-module _ (log : Log) (images : List Image) (kernel after : Held) (ending : Ending)
+module _ (scheme : Scheme) (log : Log) (images : List Image) (kernel after : Held) (ending : Ending)
     (out err out1 err_then err1 : Option (List ℕ)) (tally tally1 : ℕ)
-    (opened : IsOpenedWith kernel images (config_of log.header))
-    (whole : Whole kernel after log ending out err out1 err_then tally tally1) where
+    (opened : IsOpenedWith kernel images (config_of scheme log.header))
+    (whole : Whole scheme kernel after log ending out err out1 err_then tally tally1) where
   pub replay_did : (r : Result Ending Refusal) → IfOk r (λ ended. ended ≡ ending)
       → OnOk r (err1 ≡ grown err_then (report_in (kernel_world after) ending))
       → IfOk r (λ ended. (tells : Bool) (f f' : Text → Option (List ℕ)) (h : HostSeen)
-      → ((n : Text) → f' n ≡ f n) → DidReplay log images (ending_status ended)
+      → ((n : Text) → f' n ≡ f n) → DidReplay scheme log images (ending_status ended)
       (outside tells f f' h h out out1 err err1 tally tally1))
   replay_did (Err why) same told = tt
   replay_did (Ok ended) same told = λ tells f f' h stay.
@@ -155,14 +155,14 @@ module _ (log : Log) (images : List Image) (kernel after : Held) (ending : Endin
       → HasCause rises ec1 r
       → OnErr r (GrewByFront err_then err1 (report_in (kernel_world after) ending))
       → IfErr r (λ why. (tells : Bool) (f f' : Text → Option (List ℕ)) (h : HostSeen)
-      (k k' m : ℕ) → ((n : Text) → f' n ≡ f n) → LeavesTaken log images
+      (k k' m : ℕ) → ((n : Text) → f' n ≡ f n) → LeavesTaken scheme log images
       (outside tells f f' h h out out1 err err1 tally tally1) (faults k k' m m oc oc1 ec ec1) why)
   replay_cut oc oc1 ec rises ec1 (Ok ended) fits sink later cause front = tt
   replay_cut oc oc1 ec rises ec1 (Err why) fits sink later cause front = λ tells f f' h k k' m stay.
       let run = whole images opened in
       let o : Outside = outside tells f f' h h out out1 err err1 tally tally1 in
       let counts : Faults = faults k k' m m oc oc1 ec ec1 in
-      subst (λ (w : Refusal). LeavesTaken log images o counts w) (sym sink) (
+      subst (λ (w : Refusal). LeavesTaken scheme log images o counts w) (sym sink) (
         fits,
         inr (then_rose ec rises ec1 later cause.failed),
         inr (record {
@@ -188,44 +188,44 @@ pub same_images : (told : Option Judgement) (log : Log) (images others : List Im
 same_images told log images others e h =
     subst (λ (x : List Image). IfSome told (λ j. j ≡ agreed log x None)) (sym e) h
 
-pub replay_begun : (log : Log) (images : List Image) (name : Text) (names : List Text)
+pub replay_begun : (scheme : Scheme) (log : Log) (images : List Image) (name : Text) (names : List Text)
     (tells : Bool) (f f' : Text → Option (List ℕ)) (out err out1 err1 : Option (List ℕ))
     (tally tally1 : ℕ) (r : Result Ending Refusal)
     → IfSome (replay_judgement (f name) (map f names)) (λ j. j ≡ agreed log images None)
     → OnOk r (needed images ≤ log.header.frames) → ((n : Text) → f' n ≡ f n)
     → IfOk r (λ ended. (tells : Bool) (f f' : Text → Option (List ℕ)) (h : HostSeen)
-    → ((n : Text) → f' n ≡ f n) → DidReplay log images (ending_status ended)
+    → ((n : Text) → f' n ≡ f n) → DidReplay scheme log images (ending_status ended)
     (outside tells f f' h h out out1 err err1 tally tally1))
-    → (n : ℕ) (s : Scheme) (h : HostSeen) → IfOk r (λ ended. Begun (requests.Replay n s name names)
+    → (n : ℕ) (h : HostSeen) → IfOk r (λ ended. Begun (requests.Replay n scheme name names)
     (outside tells f f' h h out out1 err err1 tally tally1)
-    (λ taken. Did (requests.Replay n s name names) taken (ending_status ended)
+    (λ taken. Did (requests.Replay n scheme name names) taken (ending_status ended)
     (outside tells f f' h h out out1 err err1 tally tally1)))
-replay_begun log images name names tells f f' out err out1 err1 tally tally1 (Err why) told fits
-    stay did = λ n s h. tt
-replay_begun log images name names tells f f' out err out1 err1 tally tally1 (Ok ended) told fits
-    stay did = λ n s h. record {
+replay_begun scheme log images name names tells f f' out err out1 err1 tally tally1 (Err why) told fits
+    stay did = λ n h. tt
+replay_begun scheme log images name names tells f f' out err out1 err1 tally tally1 (Ok ended) told fits
+    stay did = λ n h. record {
       taken = taken_log log images;
       is = room_taken (replay_judgement (f name) (map f names)) log images fits told;
       so = did tells f f' h stay;
     }
 
-leaves_taken : (log : Log) (images : List Image) (name : Text) (names : List Text) (n : ℕ)
-    (s : Scheme) (o : Outside) (f : Faults) (why : Refusal)
+leaves_taken : (scheme : Scheme) (log : Log) (images : List Image) (name : Text)
+    (names : List Text) (n : ℕ) (o : Outside) (f : Faults) (why : Refusal)
     → IfSome (replay_judgement (o.files name) (map o.files names))
-    (λ j. j ≡ agreed log images None) → LeavesTaken log images o f why
-    → Leaves (requests.Replay n s name names) o f why []
-leaves_taken log images name names n s o f (refusals.NoRoom m frames) told h = record {
+    (λ j. j ≡ agreed log images None) → LeavesTaken scheme log images o f why
+    → Leaves (requests.Replay n scheme name names) o f why []
+leaves_taken scheme log images name names n o f (refusals.NoRoom m frames) told h = record {
   is = subst (λ (w : Refusal). IfSome (replay_judgement (o.files name) (map o.files names))
       (λ j. j ≡ Err w)) (no_room_so m frames (needed images) log.header.frames h.0 h.1)
       (room_refused (replay_judgement (o.files name) (map o.files names)) log images h.2 told);
   says = h.3;
 }
-leaves_taken log images name names n s o f (refusals.Misfit found) told h = record {
+leaves_taken scheme log images name names n o f (refusals.Misfit found) told h = record {
   taken = taken_log log images;
   is = room_taken (replay_judgement (o.files name) (map o.files names)) log images h.0 told;
   so = h.1;
 }
-leaves_taken log images name names n s o f refusals.Sink told h = (
+leaves_taken scheme log images name names n o f refusals.Sink told h = (
   h.1,
   refl,
   record {
@@ -234,37 +234,37 @@ leaves_taken log images name names n s o f refusals.Sink told h = (
     so = h.2;
   },
 )
-leaves_taken log images name names n s o f refusals.Memory told h = inl h
-leaves_taken log images name names n s o f why told h = absurd h
+leaves_taken scheme log images name names n o f refusals.Memory told h = inl h
+leaves_taken scheme log images name names n o f why told h = absurd h
 
-pub replay_leaves : (log : Log) (images : List Image) (name : Text) (names : List Text)
+pub replay_leaves : (scheme : Scheme) (log : Log) (images : List Image) (name : Text) (names : List Text)
     (tells : Bool) (f f' : Text → Option (List ℕ)) (out err out1 err1 : Option (List ℕ))
     (tally tally1 k k' oc oc1 ec ec1 : ℕ) (r : Result Ending Refusal)
     → IfSome (replay_judgement (f name) (map f names)) (λ j. j ≡ agreed log images None)
     → ((n : Text) → f' n ≡ f n)
     → IfErr r (λ why. (tells : Bool) (f f' : Text → Option (List ℕ)) (h : HostSeen)
-    (k k' m : ℕ) → ((n : Text) → f' n ≡ f n) → LeavesTaken log images
+    (k k' m : ℕ) → ((n : Text) → f' n ≡ f n) → LeavesTaken scheme log images
     (outside tells f f' h h out out1 err err1 tally tally1) (faults k k' m m oc oc1 ec ec1) why)
-    → (n : ℕ) (s : Scheme) (h : HostSeen) (m : ℕ) → IfErr r (λ why.
-    Leaves (requests.Replay n s name names)
+    → (n : ℕ) (h : HostSeen) (m : ℕ) → IfErr r (λ why.
+    Leaves (requests.Replay n scheme name names)
     (outside tells f f' h h out out1 err err1 tally tally1) (faults k k' m m oc oc1 ec ec1) why [])
-replay_leaves log images name names tells f f' out err out1 err1 tally tally1 k k' oc oc1 ec ec1
-    (Ok ended) told stay leaves = λ n s h m. tt
-replay_leaves log images name names tells f f' out err out1 err1 tally tally1 k k' oc oc1 ec ec1
-    (Err why) told stay leaves = λ n s h m.
-    leaves_taken log images name names n s (outside tells f f' h h out out1 err err1 tally tally1)
+replay_leaves scheme log images name names tells f f' out err out1 err1 tally tally1 k k' oc oc1 ec ec1
+    (Ok ended) told stay leaves = λ n h m. tt
+replay_leaves scheme log images name names tells f f' out err out1 err1 tally tally1 k k' oc oc1 ec ec1
+    (Err why) told stay leaves = λ n h m.
+    leaves_taken scheme log images name names n (outside tells f f' h h out out1 err err1 tally tally1)
     (faults k k' m m oc oc1 ec ec1) why told (leaves tells f f' h k k' m stay)
 
 -- All files were read before.
-pub replay_later : (log : Log) (images : List Image) (out err out1 err1 : Option (List ℕ))
+pub replay_later : (scheme : Scheme) (log : Log) (images : List Image) (out err out1 err1 : Option (List ℕ))
     (tally tally1 oc oc1 ec ec1 : ℕ) (r : Result Ending Refusal)
     → IfErr r (λ why. (tells : Bool) (f f' : Text → Option (List ℕ)) (h : HostSeen)
-    (k k' m : ℕ) → ((n : Text) → f' n ≡ f n) → LeavesTaken log images
+    (k k' m : ℕ) → ((n : Text) → f' n ≡ f n) → LeavesTaken scheme log images
     (outside tells f f' h h out out1 err err1 tally tally1) (faults k k' m m oc oc1 ec ec1) why)
     → IfErr r IsLater
-replay_later log images out err out1 err1 tally tally1 oc oc1 ec ec1 (Ok ended) leaves = tt
-replay_later log images out err out1 err1 tally tally1 oc oc1 ec ec1 (Err why) leaves =
-    later_replay log images
+replay_later scheme log images out err out1 err1 tally tally1 oc oc1 ec ec1 (Ok ended) leaves = tt
+replay_later scheme log images out err out1 err1 tally tally1 oc oc1 ec ec1 (Err why) leaves =
+    later_replay scheme log images
     (outside true (λ n. None) (λ n. None) unasked unasked out out1 err err1 tally tally1)
     (faults 0 0 0 0 oc oc1 ec ec1) why
     (leaves true (λ n. None) (λ n. None) unasked 0 0 0 (λ n. refl))

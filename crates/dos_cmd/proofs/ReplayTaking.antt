@@ -8,7 +8,6 @@ use Rattle.flat_machine.specs.Opening.{needed}
 use Rattle.log_files.specs.Judging.{log_verdict, disagreement, first_other}
 use Rattle.log_files.specs.declared.refusal.LogRefusal.{LogRefusal}
 use Rattle.log_files.specs.declared.refusal.LogRefusal.TheVariants as log_refusals
-use Rattle.logged_runs.specs.Replaying.{config_of}
 use Rattle.log_text.specs.LogText.{Log}
 use Rattle.dos_texts.specs.declared.refusal.Refusal.{Refusal}
 use Rattle.dos_texts.specs.declared.refusal.Refusal.TheVariants as refusals
@@ -140,10 +139,10 @@ pub room_taken : (told : Option Judgement) (log : Log) (images : List Image)
     → needed images ≤ log.header.frames → IfSome told (λ j. j ≡ agreed log images None)
     → IfSome told (λ j. j ≡ Ok (taken_log log images))
 room_taken told log images fits h =
-    with_this told _ _ (ap (of_log log) (has_room (config_of log.header) images fits)) h
+    with_this told _ _ (ap (of_log log) (has_room log.header.frames images fits)) h
 
 pub room_refused : (told : Option Judgement) (log : Log) (images : List Image)
     → log.header.frames < needed images → IfSome told (λ j. j ≡ agreed log images None)
     → IfSome told (λ j. j ≡ Err (refusals.NoRoom (needed images) log.header.frames))
 room_refused told log images over h =
-    with_this told _ _ (ap (of_log log) (no_room (config_of log.header) images over)) h
+    with_this told _ _ (ap (of_log log) (no_room log.header.frames images over)) h

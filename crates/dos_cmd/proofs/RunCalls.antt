@@ -4,7 +4,6 @@ use Rattle.std.proofs.Common.{Result, Ok, Err, sym, ap, ◌∙◌, subst, refl}
 use Rattle.std.specs.Prelude.{IfSome, IfOk, IfErr, option_map}
 use Rattle.dos_io.specs.Outside.{Rose}
 use Rattle.dos_io.specs.declared.exchange.ClockRule.{ClockRule}
-use Rattle.dos_world.specs.declared.Config.{Config}
 use Rattle.dos_world.specs.declared.Ending.{Ending}
 use Rattle.dos_world.specs.declared.Post.{Post}
 use Rattle.elf_image.specs.Image.{Image}
@@ -17,7 +16,6 @@ use Rattle.dos_texts.specs.Exit.{ending_status}
 use Rattle.dos_texts.specs.declared.refusal.Refusal.{Refusal}
 use Rattle.dos_texts.specs.declared.refusal.Refusal.TheVariants as refusals
 use Rattle.dos_words.specs.Numbers.{Text}
-use Rattle.dos_world.specs.declared.Scheme.{Scheme}
 use Rattle.dos_cmd.proofs.Asked.{IsLater, later_run}
 use Rattle.dos_cmd.specs.Judging.{Images, Judgement, OfFiles, Taken, digests_of, images_from}
 use Rattle.dos_cmd.specs.Judging.{taken_images}
@@ -37,28 +35,28 @@ abbrev pub only_images : List Image → Taken
 only_images images = taken_images images
 
 -- what all files are taken for, from what their images are
-then_taken : (config : Config) (told : Option Images) (images : Images) (j : Judgement)
-    → of_images (with_room config images) ≡ j → IfSome told (λ i. i ≡ images)
-    → IfSome (option_map (λ i. of_images (with_room config i)) told) (λ k. k ≡ j)
-then_taken config None images j e h = tt
-then_taken config (Some i) images j e h =
-    ap (λ (x : Images). of_images (with_room config x)) h ∙ e
+then_taken : (frames : ℕ) (told : Option Images) (images : Images) (j : Judgement)
+    → of_images (with_room frames images) ≡ j → IfSome told (λ i. i ≡ images)
+    → IfSome (option_map (λ i. of_images (with_room frames i)) told) (λ k. k ≡ j)
+then_taken frames None images j e h = tt
+then_taken frames (Some i) images j e h =
+    ap (λ (x : Images). of_images (with_room frames x)) h ∙ e
 
-pub taken_with : (a : RunAsked) (n : ℕ) (s : Scheme) (contents : Text → Option (List ℕ))
+pub taken_with : (a : RunAsked) (n : ℕ) (contents : Text → Option (List ℕ))
     (images : List Image)
     → needed images ≤ a.config.frames
     → IfSome (images_from 1 (map contents a.names)) (λ i. i ≡ Ok images)
-    → IfSome (judgement contents (run_asked_with a n s)) (λ j. j ≡ Ok (only_images images))
-taken_with a n s contents images fits h =
-    then_taken a.config (images_from 1 (map contents a.names)) (Ok images)
-    (Ok (only_images images)) (ap of_images (has_room a.config images fits)) h
+    → IfSome (judgement contents (run_asked_with a n)) (λ j. j ≡ Ok (only_images images))
+taken_with a n contents images fits h =
+    then_taken a.config.frames (images_from 1 (map contents a.names)) (Ok images)
+    (Ok (only_images images)) (ap of_images (has_room a.config.frames images fits)) h
 
-refused_with : (a : RunAsked) (n : ℕ) (s : Scheme) (contents : Text → Option (List ℕ))
+refused_with : (a : RunAsked) (n : ℕ) (contents : Text → Option (List ℕ))
     (why : Refusal)
     → IfSome (images_from 1 (map contents a.names)) (λ i. i ≡ Err why)
-    → IfSome (judgement contents (run_asked_with a n s)) (λ j. j ≡ Err why)
-refused_with a n s contents why h =
-    then_taken a.config (images_from 1 (map contents a.names)) (Err why) (Err why) refl h
+    → IfSome (judgement contents (run_asked_with a n)) (λ j. j ≡ Err why)
+refused_with a n contents why h =
+    then_taken a.config.frames (images_from 1 (map contents a.names)) (Err why) (Err why) refl h
 
 -- the same images under another name
 pub same_images : (told : Option Images) (images others : List Image) → images ≡ others
@@ -69,24 +67,24 @@ same_images (Some i) images others e h =
 
 -- ---- it isn't begun: nothing is put
 
-pub images_refused : (a : RunAsked) (n : ℕ) (s : Scheme) (o : Outside) (f : Faults) (why : Refusal)
+pub images_refused : (a : RunAsked) (n : ℕ) (o : Outside) (f : Faults) (why : Refusal)
     → OfFiles why (λ r. IfSome (images_from 1 (map o.files a.names)) (λ i. i ≡ Err r))
     → (why ≡ refusals.Files → Rose f.files f.files_after) → Says o []
-    → Leaves (run_asked_with a n s) o f why []
-images_refused a n s o f why h rose says =
-    leaves_reading (run_asked_with a n s) o f why
-    (of_files why _ _ (refused_with a n s o.files) h) rose says
+    → Leaves (run_asked_with a n) o f why []
+images_refused a n o f why h rose says =
+    leaves_reading (run_asked_with a n) o f why
+    (of_files why _ _ (refused_with a n o.files) h) rose says
 
-pub not_opened : (a : RunAsked) (n : ℕ) (s : Scheme) (o : Outside) (f : Faults)
+pub not_opened : (a : RunAsked) (n : ℕ) (o : Outside) (f : Faults)
     (images : List Image) (why : Refusal)
     → IfSome (images_from 1 (map o.files a.names)) (λ i. i ≡ Ok images)
-    → IsNotOpened images a.config why → Says o [] → Leaves (run_asked_with a n s) o f why []
-not_opened a n s o f images why told h says =
-    not_opened_as images a.config why (λ (w : Refusal). Leaves (run_asked_with a n s) o f w []) h
+    → IsNotOpened images a.config why → Says o [] → Leaves (run_asked_with a n) o f why []
+not_opened a n o f images why told h says =
+    not_opened_as images a.config why (λ (w : Refusal). Leaves (run_asked_with a n) o f w []) h
     (λ over. record {
-      is = then_taken a.config (images_from 1 (map o.files a.names)) (Ok images)
+      is = then_taken a.config.frames (images_from 1 (map o.files a.names)) (Ok images)
           (Err (refusals.NoRoom (needed images) a.config.frames))
-          (ap of_images (no_room a.config images over)) told;
+          (ap of_images (no_room a.config.frames images over)) told;
       says = says;
     }) (inl says)
 
@@ -139,23 +137,23 @@ earlier a images o f before refusals.Files le h =
     (then_rose before f.files f.files_after le h.0, h.1)
 earlier a images o f before why le h = h
 
-leaves_begun : (a : RunAsked) (n : ℕ) (s : Scheme) (o : Outside) (f : Faults) (images : List Image)
+leaves_begun : (a : RunAsked) (n : ℕ) (o : Outside) (f : Faults) (images : List Image)
     (why : Refusal)
-    → IfSome (judgement o.files (run_asked_with a n s)) (λ j. j ≡ Ok (only_images images))
-    → LeavesRun a images o f why → Leaves (run_asked_with a n s) o f why []
-leaves_begun a n s o f images refusals.Files is h =
+    → IfSome (judgement o.files (run_asked_with a n)) (λ j. j ≡ Ok (only_images images))
+    → LeavesRun a images o f why → Leaves (run_asked_with a n) o f why []
+leaves_begun a n o f images refusals.Files is h =
     (h.0, inr (record { taken = only_images images; is = is; so = h.1 }))
-leaves_begun a n s o f images refusals.Host is h =
+leaves_begun a n o f images refusals.Host is h =
     (h.0, record { taken = only_images images; is = is; so = h.1 })
-leaves_begun a n s o f images refusals.Sink is h =
+leaves_begun a n o f images refusals.Sink is h =
     (h.0, refl, record { taken = only_images images; is = is; so = h.1 })
-leaves_begun a n s o f images refusals.LogFull is h =
+leaves_begun a n o f images refusals.LogFull is h =
     record { taken = only_images images; is = is; so = h }
-leaves_begun a n s o f images refusals.Memory is (inl h) =
+leaves_begun a n o f images refusals.Memory is (inl h) =
     inr (inl (record { taken = only_images images; is = is; so = h }))
-leaves_begun a n s o f images refusals.Memory is (inr h) =
+leaves_begun a n o f images refusals.Memory is (inr h) =
     inr (inr (h.0, record { taken = only_images images; is = is; so = h.1 }))
-leaves_begun a n s o f images why is h = absurd h
+leaves_begun a n o f images why is h = absurd h
 
 pub run_did : (a : RunAsked) (images : List Image) (o : Outside) (tells : Bool)
     (files : Text → Option (List ℕ)) (kernel : Held) (ledger : LedgerState)
@@ -164,18 +162,18 @@ pub run_did : (a : RunAsked) (images : List Image) (o : Outside) (tells : Bool)
     → IsPrepared asked i kernel ledger a.log (record o { files_tell = tells; files = files })
     → DidRun asked i (ending_status ending) (record o { files_tell = tells; files = files }))
     → IsPrepared a images kernel ledger a.log o
-    → ((n : ℕ) (s : Scheme) → IfSome (judgement o.files (run_asked_with a n s))
+    → ((n : ℕ) → IfSome (judgement o.files (run_asked_with a n))
     (λ j. j ≡ Ok (only_images images)))
-    → (n : ℕ) (s : Scheme) → IfOk r (λ ending. Begun (run_asked_with a n s) o
-    (λ taken. Did (run_asked_with a n s) taken (ending_status ending) o))
-run_did a images o tells files kernel ledger (Err why) same stays did p is = λ n s. tt
-run_did a images o tells files kernel ledger (Ok ending) same stays did p is = λ n s.
+    → (n : ℕ) → IfOk r (λ ending. Begun (run_asked_with a n) o
+    (λ taken. Did (run_asked_with a n) taken (ending_status ending) o))
+run_did a images o tells files kernel ledger (Err why) same stays did p is = λ n. tt
+run_did a images o tells files kernel ledger (Ok ending) same stays did p is = λ n.
     let here : (asked : RunAsked) (i : List Image) → IsPrepared asked i kernel ledger a.log o
     → DidRun asked i (ending_status ending) o =
     carried (λ (x : Outside). (asked : RunAsked) (i : List Image)
     → IsPrepared asked i kernel ledger a.log x → DidRun asked i (ending_status ending) x) o tells
     files same stays did in
-    record { taken = only_images images; is = is n s; so = here a images p }
+    record { taken = only_images images; is = is n; so = here a images p }
 
 pub run_leaves : (a : RunAsked) (images : List Image) (o : Outside) (tells : Bool)
     (files : Text → Option (List ℕ)) (f : Faults) (before : ℕ) (kernel : Held)
@@ -185,20 +183,20 @@ pub run_leaves : (a : RunAsked) (images : List Image) (o : Outside) (tells : Boo
     → IsPrepared asked i kernel ledger a.log (record o { files_tell = tells; files = files })
     → LeavesRun asked i (record o { files_tell = tells; files = files }) f why)
     → IsPrepared a images kernel ledger a.log o
-    → ((n : ℕ) (s : Scheme) → IfSome (judgement o.files (run_asked_with a n s))
+    → ((n : ℕ) → IfSome (judgement o.files (run_asked_with a n))
     (λ j. j ≡ Ok (only_images images)))
-    → (n : ℕ) (s : Scheme) → IfErr r (λ why.
-    Leaves (run_asked_with a n s) o (record f { files = before }) why [])
+    → (n : ℕ) → IfErr r (λ why.
+    Leaves (run_asked_with a n) o (record f { files = before }) why [])
 run_leaves a images o tells files f before kernel ledger (Ok ending) same stays le leaves p is =
-    λ n s. tt
+    λ n. tt
 run_leaves a images o tells files f before kernel ledger (Err why) same stays le leaves p is =
-    λ n s.
+    λ n.
     let here : (asked : RunAsked) (i : List Image) → IsPrepared asked i kernel ledger a.log o
     → LeavesRun asked i o f why =
     carried (λ (x : Outside). (asked : RunAsked) (i : List Image)
     → IsPrepared asked i kernel ledger a.log x → LeavesRun asked i x f why) o tells files same
     stays leaves in
-    leaves_begun a n s o (record f { files = before }) images why (is n s)
+    leaves_begun a n o (record f { files = before }) images why (is n)
     (earlier a images o f before why le (here a images p))
 
 -- All images were read before.

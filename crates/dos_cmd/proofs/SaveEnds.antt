@@ -8,6 +8,7 @@ use Rattle.dos_io.specs.Outside.{grown, GrewByFront, HasCause, Rose}
 use Rattle.dos_io.proofs.OutsideLaws.{grown_more}
 use Rattle.dos_world.specs.World.{World}
 use Rattle.dos_world.specs.declared.Config.{Config}
+use Rattle.dos_world.specs.declared.Scheme.TheVariants.{Ownership}
 use Rattle.dos_world.specs.declared.Ending.{Ending}
 use Rattle.dos_world.specs.declared.Misfit.{Misfit}
 use Rattle.elf_image.specs.Image.{Image}
@@ -103,10 +104,10 @@ leaves_as r made text round to tells files after err err' k k' n n' is h =
 -- ---- it isn't opened
 
 pub save_not_opened : (log : Log) (images : List Image) (round : ℕ) (to : Text) (o : Outside)
-    (f : Faults) (why : Refusal) (config : Config) → config ≡ config_of log.header
+    (f : Faults) (why : Refusal) (config : Config) → config ≡ config_of Ownership log.header
     → IsNotOpened images config why → Says o [] → LeavesSave log images round to o f why
 save_not_opened log images round to o f why config is h says =
-    not_opened_as images (config_of log.header) why
+    not_opened_as images (config_of Ownership log.header) why
     (λ (w : Refusal). LeavesSave log images round to o f w)
     (subst (λ (c : Config). IsNotOpened images c why) is h) (λ over. (refl, refl, over, says))
     (inl says)
@@ -117,11 +118,11 @@ pub save_stopped : (log : Log) (images : List Image) (round : ℕ) (to : Text) (
     (f : Faults) (stop : RunStop) (why : Refusal) → why ≡ refusal_by stop
     → needed images ≤ log.header.frames → StopsReplay stop
     → ((found : Misfit) → stop ≡ stops.Misfit found → (output : List ℕ) × (error : List ℕ)
-    × (work : ℕ) × ReplayedUntil images log found output error work
+    × (work : ℕ) × ReplayedUntil Ownership images log found output error work
     × Halted o.out o.err o.out_after o.err_after o.tally o.tally_after output error work
-    × AsksWithin round images log found)
+    × AsksWithin Ownership round images log found)
     → ((output : List ℕ) × (error : List ℕ) × (work : ℕ)
-    × ReplayedAhead images log output error work
+    × ReplayedAhead Ownership images log output error work
     × Halted o.out o.err o.out_after o.err_after o.tally o.tally_after output error work)
     → HasSinkCause stop f.out f.out_after f.err f.err_after → StaysAll o
     → LeavesSave log images round to o f why
@@ -129,7 +130,7 @@ save_stopped log images round to o f stop why is fits only until ahead sink stay
     subst (λ (w : Refusal). LeavesSave log images round to o f w) (sym is)
     (by_stop stop only until sink)
   where
-    cut : CutReplay log images o
+    cut : CutReplay Ownership log images o
     cut = record {
       output = ahead.0;
       error = ahead.1;
@@ -142,9 +143,9 @@ save_stopped log images round to o f stop why is fits only until ahead sink stay
 
     by_stop : (stop : RunStop) → StopsReplay stop
         → ((found : Misfit) → stop ≡ stops.Misfit found → (output : List ℕ) × (error : List ℕ)
-        × (work : ℕ) × ReplayedUntil images log found output error work
+        × (work : ℕ) × ReplayedUntil Ownership images log found output error work
         × Halted o.out o.err o.out_after o.err_after o.tally o.tally_after output error work
-        × AsksWithin round images log found)
+        × AsksWithin Ownership round images log found)
         → HasSinkCause stop f.out f.out_after f.err f.err_after
         → LeavesSave log images round to o f (refusal_by stop)
     by_stop stops.OutFault only until sink = (fits, inl sink, inl cut)
@@ -174,17 +175,17 @@ save_stopped log images round to o f stop why is fits only until ahead sink stay
 
 pub arrived_so : (arrived known : Arrived) (images : List Image) (log : Log) (round : ℕ)
     (kernel : Held) (out err out1 err1 : Option (List ℕ)) (tally tally1 : ℕ) → arrived ≡ known
-    → Arrives arrived images log round kernel out err out1 err1 tally tally1
-    → Arrives known images log round kernel out err out1 err1 tally tally1
+    → Arrives Ownership arrived images log round kernel out err out1 err1 tally tally1
+    → Arrives Ownership known images log round kernel out err out1 err1 tally tally1
 arrived_so arrived known images log round kernel out err out1 err1 tally tally1 is h =
-    subst (λ (a : Arrived). Arrives a images log round kernel out err out1 err1 tally tally1) is h
+    subst (λ (a : Arrived). Arrives Ownership a images log round kernel out err out1 err1 tally tally1) is h
 
 -- ---- a run that came to its end before the round
 
 module _ (log : Log) (images : List Image) (round : ℕ) (to : Text) (after : Held) (ending : Ending)
     (tells : Bool) (f' : Text → Option (List ℕ)) (out err out1 err_then err1 : Option (List ℕ))
     (tally tally1 : ℕ) (run : (seen : Seen)
-    × Replayed images log seen × Ended after ending seen out err out1 err_then tally tally1
+    × Replayed Ownership images log seen × Ended after ending seen out err out1 err_then tally tally1
     × (seen.rounds < round)) where
   pub ended_did : (r : Result Ending Refusal) → IfOk r (λ ended. ended ≡ ending)
       → OnOk r (err1 ≡ grown err_then (report_in (kernel_world after) ending))
@@ -243,7 +244,7 @@ module _ (log : Log) (images : List Image) (round used : ℕ) (to : Text) (reach
     (f f1 f' : Text → Option (List ℕ)) (same : (n : Text) → f1 n ≡ f n)
     (out err out1 err_then err1 : Option (List ℕ)) (tally tally1 : ℕ)
     (run : (output : List ℕ) × (error : List ℕ) × (work : ℕ)
-    × ReplayedTo images log round used reached output error work
+    × ReplayedTo Ownership images log round used reached output error work
     × Halted out err out1 err_then tally tally1 output error work) (h : HostSeen) where
   abbrev seen_outside : Outside
   seen_outside = outside tells f f' h h out out1 err err1 tally tally1
@@ -347,7 +348,7 @@ module _ (log : Log) (images : List Image) (round used : ℕ) (to : Text) (reach
     (f1 f' : Text → Option (List ℕ)) (out err out1 err_then err1 : Option (List ℕ))
     (tally tally1 : ℕ)
     (run : (output : List ℕ) × (error : List ℕ) × (work : ℕ)
-    × ReplayedTo images log round used reached output error work
+    × ReplayedTo Ownership images log round used reached output error work
     × Halted out err out1 err_then tally tally1 output error work) where
   pub round_did : (r : Result Ending Refusal)
       → IfOk r (λ _. ComesBack (saved_group log used reached) reached)
@@ -372,17 +373,17 @@ module _ (log : Log) (images : List Image) (round used : ℕ) (to : Text) (reach
 
 -- the text of the group, by its log
 pub text_by : (log : Log) (used : ℕ) (reached : World) (digest : List ℕ) (config : Config)
-    → digest ≡ log_digest log → config ≡ config_of log.header
+    → digest ≡ log_digest log → config ≡ config_of Ownership log.header
     → grouptext (group_of digest used config reached) ≡ saved_text log used reached
 text_by log used reached digest config is same = rw (is, same) refl
 
 -- and the group
 pub back_by : (r : Result Ending Refusal) (log : Log) (used : ℕ) (reached : World)
-    (digest : List ℕ) (config : Config) → digest ≡ log_digest log → config ≡ config_of log.header
+    (digest : List ℕ) (config : Config) → digest ≡ log_digest log → config ≡ config_of Ownership log.header
     → IfOk r (λ _. ComesBack (group_of digest used config reached) reached)
     → IfOk r (λ _. ComesBack (saved_group log used reached) reached)
 back_by r log used reached digest config is same back =
-    subst (λ (d : List ℕ). IfOk r (λ _. ComesBack (group_of d used (config_of log.header) reached)
+    subst (λ (d : List ℕ). IfOk r (λ _. ComesBack (group_of d used (config_of Ownership log.header) reached)
     reached)) is
     (subst (λ (c : Config). IfOk r (λ _. ComesBack (group_of digest used c reached) reached)) same
     back)

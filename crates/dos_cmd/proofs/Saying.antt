@@ -173,8 +173,8 @@ module _ (o : Outside) (e : Option (List ℕ)) (last : List ℕ) (more : e ≡ g
         → HasMisfit asked taken found [] o → HasMisfit asked taken found last (with_error o e)
     misfit_more (Replay w s log names) taken found h = of_log taken.log h
       where
-        of_log : (read : Option Log) → OfLog read (λ l. Misfitted l taken.images found [] o)
-            → OfLog read (λ l. Misfitted l taken.images found last (with_error o e))
+        of_log : (read : Option Log) → OfLog read (λ l. Misfitted s l taken.images found [] o)
+            → OfLog read (λ l. Misfitted s l taken.images found last (with_error o e))
         of_log None h = absurd h
         of_log (Some l) h = record {
           output = h.output;

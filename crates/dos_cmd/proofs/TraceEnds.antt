@@ -6,6 +6,7 @@ use Rattle.logged_runs.specs.Recording.{HostSeen, host_seen}
 use Rattle.dos_io.specs.Outside.{grown, GrewByFront, HasCause}
 use Rattle.dos_io.proofs.OutsideLaws.{grown-nothing}
 use Rattle.dos_world.specs.declared.Config.{Config}
+use Rattle.dos_world.specs.declared.Scheme.TheVariants.{Ownership}
 use Rattle.dos_world.specs.declared.Ending.{Ending}
 use Rattle.dos_world.specs.declared.Misfit.{Misfit}
 use Rattle.elf_image.specs.Image.{Image}
@@ -38,10 +39,10 @@ use Rattle.dos_cmd.proofs.ReplayTaking.{room_refused, room_taken}
 -- ---- it isn't opened
 
 pub trace_not_opened : (log : Log) (images : List Image) (o : Outside) (f : Faults) (why : Refusal)
-    (config : Config) → config ≡ config_of log.header → IsNotOpened images config why → Says o []
+    (config : Config) → config ≡ config_of Ownership log.header → IsNotOpened images config why → Says o []
     → LeavesTrace log images o f why
 trace_not_opened log images o f why config is h says =
-    not_opened_as images (config_of log.header) why (λ (w : Refusal). LeavesTrace log images o f w)
+    not_opened_as images (config_of Ownership log.header) why (λ (w : Refusal). LeavesTrace log images o f w)
     (subst (λ (c : Config). IsNotOpened images c why) is h) (λ over. (refl, refl, over, says)) says
 
 -- ---- a run that stopped
@@ -106,8 +107,8 @@ trace_stopped log images o f stop why is fits only until ahead memory rested cau
 
 module _ (log : Log) (images : List Image) (kernel after : Held) (ending : Ending)
     (out out1 err err1 : Option (List ℕ)) (tally tally1 : ℕ)
-    (opened : IsOpenedWith kernel images (config_of log.header))
-    (whole : (i : List Image) → IsOpenedWith kernel i (config_of log.header)
+    (opened : IsOpenedWith kernel images (config_of Ownership log.header))
+    (whole : (i : List Image) → IsOpenedWith kernel i (config_of Ownership log.header)
     → TracedWhole i log after ending out out1 tally tally1) where
   pub trace_did : (r : Result Ending Refusal) → IfOk r (λ ended. ended ≡ ending)
       → OnOk r (err1 ≡ grown err (report_in (kernel_world after) ending))

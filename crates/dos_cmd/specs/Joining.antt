@@ -1,6 +1,7 @@
 -- When a call goes on with a group that another saved, and what the two show together. This
 -- project's own rules.
 use Rattle.std.specs.Prelude.{◌≡◌, ◌++◌, ℕ, List, Some, Ok, IsTrue}
+use Rattle.dos_world.specs.declared.Scheme.TheVariants.{Ownership}
 use Rattle.elf_image.specs.Image.{Image}
 use Rattle.dpg_run.specs.Fits.{misfit}
 use Rattle.logged_runs.specs.Replaying.{config_of}
@@ -31,8 +32,8 @@ pub record IsResumeOf (log : Log) (to : Text) (save : Outside) (words : List Tex
 -- A replay of this log with these images came to what it must: to its end, or to the log's misfit.
 abbrev pub HasReplayed : Log → List Image → (status : ℕ) → Outside → Type 0
 HasReplayed log images status o =
-    MustReplay (misfit images (config_of log.header) (exchanges log)) log (taken_log log images)
-    status o
+    MustReplay (misfit images (config_of Ownership log.header) (exchanges log)) Ownership log
+    (taken_log log images) status o
 
 -- A call that saved its group at a round, and one that went on with it, showed together what a
 -- whole one showed, the line left out that says that it was saved; and the status is the whole

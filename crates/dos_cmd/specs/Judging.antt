@@ -11,7 +11,6 @@ use Rattle.generated_group.specs.Generated.{generated}
 use Rattle.flat_machine.specs.Opening.{needed}
 use Rattle.log_files.specs.Judging.{disagreement, log_verdict}
 use Rattle.log_files.specs.declared.refusal.LogRefusal.{LogRefusal}
-use Rattle.logged_runs.specs.Replaying.{config_of}
 use Rattle.sha2.specs.Sha256.{sha256}
 use Rattle.log_text.specs.Bytes.{FitsDigest}
 use Rattle.log_text.specs.LogText.{Log, exchanges}
@@ -81,11 +80,11 @@ digests_of (None ∷ files) = None
 digests_of (Some file ∷ files) = option_map (λ others. sha256 file ∷ others) (digests_of files)
 
 -- A group needs its images' pages, with 16 for each stack.
-abbrev pub with_room : Config → Images → Images
-with_room config (Err why) = Err why
-with_room config (Ok images) =
-    if nat_lt config.frames (needed images) then Err
-    (refusals.NoRoom (needed images) config.frames) else Ok images
+abbrev pub with_room : (frames : ℕ) → Images → Images
+with_room frames (Err why) = Err why
+with_room frames (Ok images) =
+    if nat_lt frames (needed images) then Err (refusals.NoRoom (needed images) frames)
+    else Ok images
 
 -- ---- a replay: the log, the images, whether the log is of them, and room
 
@@ -125,7 +124,7 @@ of_log log (Err why) = Err why
 -- not.
 abbrev pub agreed : Log → List Image → Option LogRefusal → Judgement
 agreed log images (Some why) = Err (refusals.Log why)
-agreed log images None = of_log log (with_room (config_of log.header) (Ok images))
+agreed log images None = of_log log (with_room log.header.frames (Ok images))
 
 -- a log, and the images
 abbrev pub with_images : Log → Option (List (List ℕ)) → Images → Option Judgement
@@ -188,8 +187,7 @@ gen_config = record { quantum = 1000; rounds = 100000; frames = 4096; scheme = O
 abbrev pub judgement : (Text → Option (List ℕ)) → Request → Option Judgement
 judgement contents
     (Run quantum rounds frames workers scheme posts clock_from clock_step log names) =
-    option_map (λ images. of_images
-    (with_room (record { quantum = quantum; rounds = rounds; frames = frames; scheme = Ownership }) images))
+    option_map (λ images. of_images (with_room frames images))
     (images_from 1 (map contents names))
 judgement contents (Replay workers scheme log names) =
     replay_judgement (contents log) (map contents names)

@@ -1,6 +1,7 @@
 -- What `replay` leaves. This project's own rules.
 use Rattle.std.specs.Prelude.{◌≡◌, ◌⊎◌, ◌<◌, ◌≤◌, ◌++◌, ⊤, ℕ, List, []}
 use Rattle.dos_world.specs.declared.Misfit.{Misfit}
+use Rattle.dos_world.specs.declared.Scheme.{Scheme}
 use Rattle.elf_image.specs.Image.{Image}
 use Rattle.flat_machine.specs.Opening.{needed}
 use Rattle.log_files.specs.declared.refusal.LogRefusal.{LogRefusal}
@@ -20,10 +21,11 @@ pub record StaysAll (o : Outside) : Type 0 where
   pub files_stay : FilesStay o
   pub host_stays : HostStays o
 
--- The run fits the log, and was done: the outputs grew by its bytes and the report.
-pub record DidReplay (log : Log) (images : List Image) (status : ℕ) (o : Outside) : Type 0 where
+-- The run, by this scheme, fits the log, and was done: the outputs grew by its bytes and the report.
+pub record DidReplay (scheme : Scheme) (log : Log) (images : List Image) (status : ℕ) (o : Outside)
+    : Type 0 where
   pub seen : Seen
-  pub replayed : Replayed images log seen
+  pub replayed : Replayed scheme images log seen
   pub status_is : status ≡ ending_status seen.ending
   pub counted : Counted o seen.work
   pub grew : Grew o seen.output (seen.error ++ report seen)
@@ -31,30 +33,31 @@ pub record DidReplay (log : Log) (images : List Image) (status : ℕ) (o : Outsi
 
 -- The run came to the log's misfit. The outputs grew by its bytes until there, and then error by
 -- the last ones, and the tally by its work.
-pub record Misfitted (log : Log) (images : List Image) (found : Misfit) (last : List ℕ)
-    (o : Outside) : Type 0 where
+pub record Misfitted (scheme : Scheme) (log : Log) (images : List Image) (found : Misfit)
+    (last : List ℕ) (o : Outside) : Type 0 where
   pub output : List ℕ
   pub error : List ℕ
   pub work : ℕ
-  pub replayed : ReplayedUntil images log found output error work
+  pub replayed : ReplayedUntil scheme images log found output error work
   pub counted : Counted o work
   pub grew : Grew o output (error ++ last)
   pub stays : StaysAll o
 
 -- An output failed in the run.
-pub record CutReplay (log : Log) (images : List Image) (o : Outside) : Type 0 where
+pub record CutReplay (scheme : Scheme) (log : Log) (images : List Image) (o : Outside) : Type 0 where
   pub output : List ℕ
   pub error : List ℕ
   pub work : ℕ
-  pub replayed : ReplayedAhead images log output error work
+  pub replayed : ReplayedAhead scheme images log output error work
   pub counted : Counted o work
   pub grew : Grew o output error
   pub stays : StaysAll o
 
 -- Error failed in the report.
-pub record CutReplayReport (log : Log) (images : List Image) (o : Outside) : Type 0 where
+pub record CutReplayReport (scheme : Scheme) (log : Log) (images : List Image) (o : Outside)
+    : Type 0 where
   pub seen : Seen
-  pub replayed : Replayed images log seen
+  pub replayed : Replayed scheme images log seen
   pub counted : Counted o seen.work
   pub grew : GrewUpToLast o seen.output seen.error (report seen)
   pub stays : StaysAll o
@@ -76,14 +79,14 @@ OfReading why P = OfFiles why P
 
 -- Why a log that is of these images came to no report, and what stands then: there was no room; or
 -- the run came to the log's misfit, or an output failed in it. Want of memory comes before the run.
-abbrev pub LeavesTaken : Log → List Image → Outside → Faults → Refusal → Type 0
-LeavesTaken log images o f (refusals.NoRoom n frames) =
+abbrev pub LeavesTaken : Scheme → Log → List Image → Outside → Faults → Refusal → Type 0
+LeavesTaken scheme log images o f (refusals.NoRoom n frames) =
     (n ≡ needed images) × (frames ≡ log.header.frames) × (log.header.frames < needed images)
     × Says o []
-LeavesTaken log images o f (refusals.Misfit found) =
-    (needed images ≤ log.header.frames) × Misfitted log images found [] o
-LeavesTaken log images o f refusals.Sink =
+LeavesTaken scheme log images o f (refusals.Misfit found) =
+    (needed images ≤ log.header.frames) × Misfitted scheme log images found [] o
+LeavesTaken scheme log images o f refusals.Sink =
     (needed images ≤ log.header.frames) × OutputFailed f
-    × (CutReplay log images o ⊎ CutReplayReport log images o)
-LeavesTaken log images o f refusals.Memory = Says o []
-LeavesTaken log images o f _ = ⊥
+    × (CutReplay scheme log images o ⊎ CutReplayReport scheme log images o)
+LeavesTaken scheme log images o f refusals.Memory = Says o []
+LeavesTaken scheme log images o f _ = ⊥

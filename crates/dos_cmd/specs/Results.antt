@@ -6,6 +6,7 @@ use Rattle.dos_io.specs.declared.shim.ShimStop.{ShimStop}
 use Rattle.dos_io.specs.declared.shim.ShimStop.TheVariants as stops
 use Rattle.dos_world.specs.declared.Misfit.{Misfit}
 use Rattle.dos_world.specs.declared.Post.{Post}
+use Rattle.dos_world.specs.declared.Scheme.{Scheme}
 use Rattle.dos_world.specs.declared.Scheme.TheVariants.{Ownership}
 use Rattle.dpg_run.specs.Fits.{misfit, misfit_from}
 use Rattle.logged_runs.specs.Replaying.{config_of}
@@ -38,10 +39,10 @@ use Rattle.dos_cmd.specs.Printing.{Inspected, Generated, CutInspect, CutSummary,
 -- ---- it was done
 
 -- what a request to run asks for
-abbrev pub run_request_asked : (quantum rounds frames : ℕ) → List (ℕ × Post) → Option ℕ → ℕ → Text
-    → List Text → RunAsked
-run_request_asked quantum rounds frames posts clock_from clock_step log names = record {
-  config = record { quantum = quantum; rounds = rounds; frames = frames; scheme = Ownership };
+abbrev pub run_request_asked : (quantum rounds frames : ℕ) → Scheme → List (ℕ × Post) → Option ℕ
+    → ℕ → Text → List Text → RunAsked
+run_request_asked quantum rounds frames scheme posts clock_from clock_step log names = record {
+  config = record { quantum = quantum; rounds = rounds; frames = frames; scheme = scheme };
   posts = posts;
   clock_from = clock_from;
   clock_step = clock_step;
@@ -66,11 +67,11 @@ OfGroup taken P = OfBoth taken.group taken.log P
 abbrev pub Did : Request → Taken → ℕ → Outside → Type 0
 Did (Run quantum rounds frames workers scheme posts clock_from clock_step log names) taken status
     o =
-    DidRun (run_request_asked quantum rounds frames posts clock_from clock_step log names)
+    DidRun (run_request_asked quantum rounds frames scheme posts clock_from clock_step log names)
     taken.images
     status o
 Did (Replay workers scheme log names) taken status o =
-    OfLog taken.log (λ read. DidReplay read taken.images status o)
+    OfLog taken.log (λ read. DidReplay scheme read taken.images status o)
 Did (Inspect name) taken status o = Inspected taken.images status o
 Did (Gen number threads workers) taken status o = Generated taken.images status o
 Did (Migrate log to) taken status o = OfLog taken.log (λ read. Migrated read to status o)
@@ -89,7 +90,7 @@ Did (Debug workers log names) taken status o =
 abbrev pub WasStopped : Request → Taken → ShimStop → (last : List ℕ) → Outside → Type 0
 WasStopped (Run quantum rounds frames workers scheme posts clock_from clock_step log names) taken
     stop last o =
-    StoppedRun (run_request_asked quantum rounds frames posts clock_from clock_step log names)
+    StoppedRun (run_request_asked quantum rounds frames scheme posts clock_from clock_step log names)
     taken.images stop last o
 WasStopped (Gen number threads workers) taken stops.Memory last o =
     QuietlyStopped taken.images last o
@@ -103,7 +104,7 @@ WasStopped _ taken stop last o = ⊥
 abbrev pub Unwritten : Request → Taken → (last : List ℕ) → Outside → Type 0
 Unwritten (Run quantum rounds frames workers scheme posts clock_from clock_step log names) taken
     last o =
-    UnwrittenRun (run_request_asked quantum rounds frames posts clock_from clock_step log names)
+    UnwrittenRun (run_request_asked quantum rounds frames scheme posts clock_from clock_step log names)
     taken.images last o
 Unwritten (Migrate log to) taken last o = UnwrittenText to last o
 Unwritten (Save workers log round to names) taken last o =
@@ -113,7 +114,7 @@ Unwritten _ taken last o = ⊥
 -- A replay came to this misfit, traced or not, as far as a round or from one on.
 abbrev pub HasMisfit : Request → Taken → Misfit → (last : List ℕ) → Outside → Type 0
 HasMisfit (Replay workers scheme log names) taken found last o =
-    OfLog taken.log (λ read. Misfitted read taken.images found last o)
+    OfLog taken.log (λ read. Misfitted scheme read taken.images found last o)
 HasMisfit (Trace workers log names) taken found last o =
     OfLog taken.log (λ read. MisfittedTrace read taken.images found last o)
 HasMisfit (Save workers log round to names) taken found last o =
@@ -125,12 +126,13 @@ HasMisfit _ taken found last o = ⊥
 -- An output failed while what is asked for was done.
 abbrev pub Cut : Request → Taken → Outside → Type 0
 Cut (Run quantum rounds frames workers scheme posts clock_from clock_step log names) taken o =
-    CutRun (run_request_asked quantum rounds frames posts clock_from clock_step log names)
+    CutRun (run_request_asked quantum rounds frames scheme posts clock_from clock_step log names)
     taken.images o
-    ⊎ CutRunReport (run_request_asked quantum rounds frames posts clock_from clock_step log names)
+    ⊎ CutRunReport (run_request_asked quantum rounds frames scheme posts clock_from clock_step log names)
     taken.images o
 Cut (Replay workers scheme log names) taken o =
-    OfLog taken.log (λ read. CutReplay read taken.images o ⊎ CutReplayReport read taken.images o)
+    OfLog taken.log (λ read. CutReplay scheme read taken.images o
+    ⊎ CutReplayReport scheme read taken.images o)
 Cut (Inspect name) taken o = CutInspect taken.images o
 Cut (Gen number threads workers) taken o = CutSummary taken.images o
 Cut (Migrate log to) taken o = OfLog taken.log (λ read. CutMigration read to o)
@@ -227,10 +229,11 @@ pub record CutShort (words : List Text) (o : Outside) (f : Faults)
 -- ---- what must come, where the files tell what the words ask for
 
 -- A replay comes to its log's misfit, if there is one, and is done else.
-abbrev pub MustReplay : Option Misfit → Log → Taken → ℕ → Outside → Type 0
-MustReplay None log taken status o = DidReplay log taken.images status o
-MustReplay (Some found) log taken status o = (status ≡ refusal_status (refusals.Misfit found))
-    × Misfitted log taken.images found (line_of (refusals.Misfit found)) o
+abbrev pub MustReplay : Option Misfit → Scheme → Log → Taken → ℕ → Outside → Type 0
+MustReplay None scheme log taken status o = DidReplay scheme log taken.images status o
+MustReplay (Some found) scheme log taken status o =
+    (status ≡ refusal_status (refusals.Misfit found))
+    × Misfitted scheme log taken.images found (line_of (refusals.Misfit found)) o
 
 -- The same of one that is traced.
 abbrev pub MustTrace : Option Misfit → Log → Taken → ℕ → Outside → Type 0
@@ -258,14 +261,15 @@ MustResume (Some found) g log status o =
 abbrev pub MustDo : Request → Taken → ℕ → Outside → Type 0
 MustDo (Replay workers scheme log names) taken status o =
     OfLog taken.log (λ read. MustReplay
-    (misfit taken.images (config_of read.header) (exchanges read)) read taken status o)
+    (misfit taken.images (config_of scheme read.header) (exchanges read)) scheme read taken status
+    o)
 MustDo (Trace workers log names) taken status o =
     OfLog taken.log (λ read. MustTrace
-    (misfit taken.images (config_of read.header) (exchanges read)) read taken status o)
+    (misfit taken.images (config_of Ownership read.header) (exchanges read)) read taken status o)
 MustDo (Migrate log to) taken status o = Did (Migrate log to) taken status o
 MustDo (Save workers log round to names) taken status o =
     OfLog taken.log (λ read. MustSave
-    (misfit taken.images (config_of read.header) (exchanges read)) read taken round to status o)
+    (misfit taken.images (config_of Ownership read.header) (exchanges read)) read taken round to status o)
 MustDo (Resume workers log from) taken status o =
     OfGroup taken (λ g read. MustResume
     (misfit_from g.used (exchanges_from g.used read) (run_from (world_in g) g.config)) g read

@@ -5,6 +5,7 @@ use Rattle.dos_world.specs.declared.Ending.{Ending}
 use Rattle.dos_world.specs.declared.Ending.TheVariants.{Done}
 use Rattle.dos_world.specs.World.{World}
 use Rattle.dos_world.specs.declared.Misfit.{Misfit}
+use Rattle.dos_world.specs.declared.Scheme.TheVariants.{Ownership}
 use Rattle.elf_image.specs.Image.{Image}
 use Rattle.flat_machine.specs.Opening.{needed}
 use Rattle.group_text.specs.GroupText.{grouptext}
@@ -30,7 +31,7 @@ log_digest log = sha256 (logtext log)
 
 -- the group that is saved in this world, behind so many exchanges of the log
 abbrev pub saved_group : Log → (used : ℕ) → World → SavedGroup
-saved_group log used reached = group_of (log_digest log) used (config_of log.header) reached
+saved_group log used reached = group_of (log_digest log) used (config_of Ownership log.header) reached
 
 -- its text
 abbrev pub saved_text : Log → (used : ℕ) → World → List ℕ
@@ -46,7 +47,7 @@ pub record ComesBack (g : SavedGroup) (w : World) : Type 0 where
 pub record CameToRound (log : Log) (images : List Image) (round used : ℕ) (reached : World)
     (output error : List ℕ) (o : Outside) : Type 0 where
   pub work : ℕ
-  pub replayed : ReplayedTo images log round used reached output error work
+  pub replayed : ReplayedTo Ownership images log round used reached output error work
   pub counted : Counted o work
   pub host_stays : HostStays o
 
@@ -67,7 +68,7 @@ pub record SavedRun (log : Log) (images : List Image) (round : ℕ) (to : Text) 
 -- The run came to its end before the round: it is a whole replay, and no file changed.
 pub record EndedBefore (log : Log) (images : List Image) (round status : ℕ) (o : Outside) : Type 0
   where
-    pub did : DidReplay log images status o
+    pub did : DidReplay Ownership log images status o
     pub before : did.seen.rounds < round
 
 abbrev pub DidSave : Log → List Image → (round : ℕ) → (to : Text) → (status : ℕ) → Outside → Type 0
@@ -77,8 +78,8 @@ DidSave log images round to status o =
 -- The run came to the log's misfit, and so does one that has no more rounds.
 pub record MisfittedSave (log : Log) (images : List Image) (round : ℕ) (found : Misfit)
     (last : List ℕ) (o : Outside) : Type 0 where
-  pub run : Misfitted log images found last o
-  pub within : AsksWithin round images log found
+  pub run : Misfitted Ownership log images found last o
+  pub within : AsksWithin Ownership round images log found
 
 -- The group couldn't be written. The outputs grew by the run's bytes until the round, and then
 -- error by the last ones; no other file changed.
@@ -107,7 +108,8 @@ pub record CutSaved (log : Log) (images : List Image) (round : ℕ) (to : Text) 
 -- An output failed: in the run, in the report of one that ended before the round, or in the line.
 abbrev pub CutSave : Log → List Image → (round : ℕ) → (to : Text) → Outside → Type 0
 CutSave log images round to o =
-    CutReplay log images o ⊎ CutReplayReport log images o ⊎ CutSaved log images round to o
+    CutReplay Ownership log images o ⊎ CutReplayReport Ownership log images o
+    ⊎ CutSaved log images round to o
 
 -- ---- from part to whole
 

@@ -2,6 +2,7 @@
 -- project's own rules.
 use Rattle.std.specs.Prelude.{◌≡◌, ◌⊎◌, ◌<◌, ◌≤◌, ℕ, List, []}
 use Rattle.dos_world.specs.declared.Misfit.{Misfit}
+use Rattle.dos_world.specs.declared.Scheme.TheVariants.{Ownership}
 use Rattle.dos_io.specs.Outside.{grown, GrewByFront}
 use Rattle.elf_image.specs.Image.{Image}
 use Rattle.flat_machine.specs.Machine.{Seen}
@@ -29,7 +30,7 @@ trace_refusal traces.Memory = refusals.Memory
 -- report.
 pub record DidTrace (log : Log) (images : List Image) (status : ℕ) (o : Outside) : Type 0 where
   pub seen : Seen
-  pub replayed : Replayed images log seen
+  pub replayed : Replayed Ownership images log seen
   pub status_is : status ≡ ending_status seen.ending
   pub counted : Counted o seen.work
   pub grew : Grew o (log_lines images log) (report seen)
@@ -42,7 +43,7 @@ pub record MisfittedTrace (log : Log) (images : List Image) (found : Misfit) (la
   pub output : List ℕ
   pub error : List ℕ
   pub work : ℕ
-  pub replayed : ReplayedUntil images log found output error work
+  pub replayed : ReplayedUntil Ownership images log found output error work
   pub counted : Counted o work
   pub grew : Grew o (first_log_lines found.entry images log) last
   pub stays : StaysAll o
@@ -51,7 +52,7 @@ pub record MisfittedTrace (log : Log) (images : List Image) (found : Misfit) (la
 -- tally grew.
 pub record CutTrace (log : Log) (images : List Image) (o : Outside) : Type 0 where
   pub answered : ℕ
-  pub counted : Counted o (first_work answered images log)
+  pub counted : Counted o (first_work Ownership answered images log)
   pub out_is : GrewByFront o.out o.out_after (first_log_lines answered images log)
   pub err_stays : o.err_after ≡ o.err
   pub stays : StaysAll o
@@ -59,7 +60,7 @@ pub record CutTrace (log : Log) (images : List Image) (o : Outside) : Type 0 whe
 -- Error failed in the report.
 pub record CutTraceReport (log : Log) (images : List Image) (o : Outside) : Type 0 where
   pub seen : Seen
-  pub replayed : Replayed images log seen
+  pub replayed : Replayed Ownership images log seen
   pub counted : Counted o seen.work
   pub out_is : o.out_after ≡ grown o.out (log_lines images log)
   pub err_is : GrewByFront o.err o.err_after (report seen)

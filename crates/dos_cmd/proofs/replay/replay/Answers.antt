@@ -12,9 +12,9 @@ pub returns-in_err-log : goal.returns-in_err-log
 returns-in_err-log g c =
     let p = err_from_is_err_and c.from_residual.result c.from_residual.ensures.1 in
     rw (p.1, p.2) (record {
-      did = λ n s h. tt;
+      did = λ n h. tt;
       leaves = let take = c.in_err-log.ensures in
-          (λ n s h m. leaves_reading (requests.Replay n s c.args.log.now c.args.names.now)
+          (λ n h m. leaves_reading (requests.Replay n c.args.scheme c.args.log.now c.args.names.now)
           (outside (g.F.Files.tells c.args.files.now) (g.F.Files.content c.args.files.now)
           (g.F.Files.content c.take.new.files) h h (g.O.Sink.told c.args.out.now)
           (g.O.Sink.told c.args.out.now) (g.E.Sink.told c.args.err.now) (g.E.Sink.told
@@ -24,7 +24,7 @@ returns-in_err-log g c =
           (g.O.Sink.faults c.args.out.now) (g.O.Sink.faults c.args.out.now)
           (g.E.Sink.faults c.args.err.now) (g.E.Sink.faults c.args.err.now)) _ take.refused
           (λ e. take.fault (is_err_of _ _ e)) (says_nothing _ refl refl take.stays refl refl));
-      asked = λ n s. c.in_err-log.ensures.asked;
+      asked = λ n. c.in_err-log.ensures.asked;
       files_later = c.take.ensures.later;
       out_later = le_refl _;
       err_later = le_refl _;
@@ -37,7 +37,7 @@ pub returns : goal.returns
 returns g c =
     let take = c.in_ok-log.ensures in
     record {
-      did = replay_begun c.in_ok-log.log c.deref.result.now c.args.log.now c.args.names.now
+      did = replay_begun c.args.scheme c.in_ok-log.log c.deref.result.now c.args.log.now c.args.names.now
           (g.F.Files.tells c.args.files.now) (g.F.Files.content c.args.files.now)
           (g.F.Files.content c.take.new.files) (g.O.Sink.told c.args.out.now)
           (g.E.Sink.told c.args.err.now) (g.O.Sink.told c.replay_taken.new.out)
@@ -45,7 +45,7 @@ returns g c =
           (g.W.Workers.tally c.replay_taken.new.workers) c.replay_taken.result
           (same_images _ c.in_ok-log.log _ _ c.deref.ensures.value take.taken)
           c.replay_taken.ensures.room take.stays c.replay_taken.ensures.did;
-      leaves = replay_leaves c.in_ok-log.log c.deref.result.now c.args.log.now c.args.names.now
+      leaves = replay_leaves c.args.scheme c.in_ok-log.log c.deref.result.now c.args.log.now c.args.names.now
           (g.F.Files.tells c.args.files.now) (g.F.Files.content c.args.files.now)
           (g.F.Files.content c.take.new.files) (g.O.Sink.told c.args.out.now)
           (g.E.Sink.told c.args.err.now) (g.O.Sink.told c.replay_taken.new.out)
@@ -56,8 +56,8 @@ returns g c =
           (g.E.Sink.faults c.replay_taken.new.err) c.replay_taken.result
           (same_images _ c.in_ok-log.log _ _ c.deref.ensures.value take.taken) take.stays
           c.replay_taken.ensures.leaves;
-      asked = λ n s. all_read c.replay_taken.result (c.args.log.now ∷ []) c.args.names.now _ _
-          (replay_later c.in_ok-log.log c.deref.result.now (g.O.Sink.told c.args.out.now)
+      asked = λ n. all_read c.replay_taken.result (c.args.log.now ∷ []) c.args.names.now _ _
+          (replay_later c.args.scheme c.in_ok-log.log c.deref.result.now (g.O.Sink.told c.args.out.now)
           (g.E.Sink.told c.args.err.now) (g.O.Sink.told c.replay_taken.new.out)
           (g.E.Sink.told c.replay_taken.new.err) (g.W.Workers.tally c.args.workers.now)
           (g.W.Workers.tally c.replay_taken.new.workers) (g.O.Sink.faults c.args.out.now)

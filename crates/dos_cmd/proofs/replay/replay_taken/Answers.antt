@@ -14,7 +14,7 @@ returns-in_err-kernel g c =
     rw (p.1, p.2) (record {
       did = tt;
       room = tt;
-      leaves = (λ tells f f' h k k' m stay. not_opened c.args.log c.args.images.now
+      leaves = (λ tells f f' h k k' m stay. not_opened c.args.scheme c.args.log c.args.images.now
           (outside tells f f' h h (g.O.Sink.told c.args.out.now) (g.O.Sink.told c.args.out.now)
           (g.E.Sink.told c.args.err.now) (g.E.Sink.told c.args.err.now)
           (g.W.Workers.tally c.args.workers.now) (g.W.Workers.tally c.args.workers.now))
@@ -37,19 +37,19 @@ returns-in-Err g c = record {
       let opening = c.in_ok-kernel.ensures in
       let run = c.in-Err.ensures in
       let is = c.config_of.ensures.config in
-      let opened = opened_by c.args.log c.args.images.now c.in_ok-kernel.kernel c.config_of.result
+      let opened = opened_by c.args.scheme c.args.log c.args.images.now c.in_ok-kernel.kernel c.config_of.result
       is
       opening.opened in
-      replay_stopped c.args.log c.args.images.now
+      replay_stopped c.args.scheme c.args.log c.args.images.now
       (outside tells f f' h h (g.O.Sink.told c.args.out.now) (g.O.Sink.told c.replay_group.new.out)
       (g.E.Sink.told c.args.err.now) (g.E.Sink.told c.replay_group.new.err)
       (g.W.Workers.tally c.args.workers.now) (g.W.Workers.tally c.replay_group.new.workers))
       (faults k k' m m (g.O.Sink.faults c.args.out.now) (g.O.Sink.faults c.replay_group.new.out)
       (g.E.Sink.faults c.args.err.now) (g.E.Sink.faults c.replay_group.new.err)) c.in-Err.stop _
       c.refusal_by.ensures
-      (has_room c.args.log c.args.images.now c.config_of.result is opening.room) run.only
-      (λ found e. run.misfit found (is_err_of _ _ e) c.args.images.now opened)
-      (run.cut c.args.images.now opened) run.sinks
+      (has_room c.args.scheme c.args.log c.args.images.now c.config_of.result is opening.room) run.only
+      (λ found e. run.misfit found (is_err_of _ _ e) c.args.scheme c.args.images.now opened)
+      (run.cut c.args.scheme c.args.images.now opened) run.sinks
       (record { files_stay = stay; host_stays = λ i. h });
   out_later = c.in-Err.ensures.out_later;
   err_later = c.in-Err.ensures.err_later;
@@ -65,27 +65,27 @@ returns-in-Ok g c =
     let opening = c.in_ok-kernel.ensures in
     let run = c.in-Ok.ensures in
     let is = c.config_of.ensures.config in
-    let opened = opened_by c.args.log c.args.images.now c.in_ok-kernel.kernel c.config_of.result is
+    let opened = opened_by c.args.scheme c.args.log c.args.images.now c.in_ok-kernel.kernel c.config_of.result is
     opening.opened in
     record {
-      did = replay_did c.args.log c.args.images.now c.in_ok-kernel.kernel c.replay_group.new.kernel
+      did = replay_did c.args.scheme c.args.log c.args.images.now c.in_ok-kernel.kernel c.replay_group.new.kernel
           c.in-Ok.ending (g.O.Sink.told c.args.out.now) (g.E.Sink.told c.args.err.now)
           (g.O.Sink.told c.replay_group.new.out) (g.E.Sink.told c.replay_group.new.err)
           (g.E.Sink.told c.report-ended.new.err) (g.W.Workers.tally c.args.workers.now)
-          (g.W.Workers.tally c.replay_group.new.workers) opened run.ran c.report-ended.result
+          (g.W.Workers.tally c.replay_group.new.workers) opened (run.ran c.args.scheme) c.report-ended.result
           c.report-ended.ensures.same c.report-ended.ensures.told;
       room = on_ok c.report-ended.result _
-          (has_room c.args.log c.args.images.now c.config_of.result is opening.room);
-      leaves = replay_cut c.args.log c.args.images.now c.in_ok-kernel.kernel
+          (has_room c.args.scheme c.args.log c.args.images.now c.config_of.result is opening.room);
+      leaves = replay_cut c.args.scheme c.args.log c.args.images.now c.in_ok-kernel.kernel
           c.replay_group.new.kernel
           c.in-Ok.ending (g.O.Sink.told c.args.out.now) (g.E.Sink.told c.args.err.now)
           (g.O.Sink.told c.replay_group.new.out) (g.E.Sink.told c.replay_group.new.err)
           (g.E.Sink.told c.report-ended.new.err) (g.W.Workers.tally c.args.workers.now)
-          (g.W.Workers.tally c.replay_group.new.workers) opened run.ran
+          (g.W.Workers.tally c.replay_group.new.workers) opened (run.ran c.args.scheme)
           (g.O.Sink.faults c.args.out.now) (g.O.Sink.faults c.replay_group.new.out)
           (g.E.Sink.faults c.args.err.now) (g.E.Sink.faults c.replay_group.new.err)
           (g.E.Sink.faults c.report-ended.new.err) c.report-ended.result
-          (has_room c.args.log c.args.images.now c.config_of.result is opening.room)
+          (has_room c.args.scheme c.args.log c.args.images.now c.config_of.result is opening.room)
           c.report-ended.ensures.sink run.err_later c.report-ended.ensures.cause
           c.report-ended.ensures.front;
       out_later = c.in-Ok.ensures.out_later;

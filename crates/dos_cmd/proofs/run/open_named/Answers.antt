@@ -12,7 +12,7 @@ pub returns-in_err-images-clause-leaves : goal.returns-in_err-images-clause-leav
 returns-in_err-images-clause-leaves g c =
     let p = err_from_is_err_and c.from_residual.result c.from_residual.ensures.1 in
     let load = c.in_err-images.ensures in
-    rw (p.1, p.2) (λ n s h out err t k l m. images_refused (request_asked c.args.request.now) n s
+    rw (p.1, p.2) (λ n h out err t k l m. images_refused (request_asked c.args.request.now) n
     (outside (g.F.Files.tells c.args.files.now) (g.F.Files.content c.args.files.now)
     (g.F.Files.content c.load_all.new.files) h h out out err err t t)
     (faults (g.F.Files.faults c.args.files.now) (g.F.Files.faults c.load_all.new.files) k k l l m m)
@@ -24,7 +24,7 @@ returns-in_err-opened-clause-leaves g c =
     let p = err_from_is_err_and c.from_residual-in_err-opened.result
     c.from_residual-in_err-opened.ensures.1 in
     let load = c.in_ok-images.ensures in
-    rw (p.1, p.2) (λ n s h out err t k l m. not_opened (request_asked c.args.request.now) n s
+    rw (p.1, p.2) (λ n h out err t k l m. not_opened (request_asked c.args.request.now) n
     (outside (g.F.Files.tells c.args.files.now) (g.F.Files.content c.args.files.now)
     (g.F.Files.content c.load_all.new.files) h h out out err err t t)
     (faults (g.F.Files.faults c.args.files.now) (g.F.Files.faults c.load_all.new.files) k k l l m m)
@@ -36,7 +36,7 @@ returns-clause-opened g c =
     let load = c.in_ok-images.ensures in
     let opening = c.in_ok-opened.ensures in record {
       images = c.deref.result.now;
-      taken = λ n s. taken_with (request_asked c.args.request.now) n s
+      taken = λ n. taken_with (request_asked c.args.request.now) n
           (g.F.Files.content c.args.files.now) c.deref.result.now opening.room
           (same_images _ _ _ c.deref.ensures.value load.accepted);
       opened = opening.opened;

@@ -44,7 +44,7 @@ returns-in-Err g c =
       fresh = tt;
       begins = tt;
       leaves = rw c.in-Err.ensures.memory
-          (λ n s h out err t k l m. inl (says_nothing _ refl refl opening.stays refl refl));
+          (λ n h out err t k l m. inl (says_nothing _ refl refl opening.stays refl refl));
       asked = rw c.in-Err.ensures.memory
           (stopped_later [] c.args.request.now.names.now Memory _ _ tt opening.asked);
       later = opening.later;

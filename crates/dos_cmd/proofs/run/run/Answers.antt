@@ -11,13 +11,13 @@ pub returns-in_err-kernel : goal.returns-in_err-kernel
 returns-in_err-kernel g c =
     let p = err_from_is_err_and c.from_residual.result c.from_residual.ensures.1 in
     rw (p.1, p.2) (record {
-      did = λ n s. tt;
-      leaves = (λ n s. c.in_err-kernel.ensures.leaves n s
+      did = λ n. tt;
+      leaves = (λ n. c.in_err-kernel.ensures.leaves n
           (host_seen (g.H.Host.told c.args.host.now) (g.H.Host.asked c.args.host.now))
           (g.O.Sink.told c.args.out.now) (g.E.Sink.told c.args.err.now)
           (g.W.Workers.tally c.args.workers.now) (g.H.Host.faults c.args.host.now)
           (g.O.Sink.faults c.args.out.now) (g.E.Sink.faults c.args.err.now));
-      asked = λ n s. stopped_in_reads [] c.args.request.now.names.now
+      asked = λ n. stopped_in_reads [] c.args.request.now.names.now
           (c.args.request.now.log.now ∷ []) _ _ _ c.in_err-kernel.ensures.asked;
       files_later = c.prepare.ensures.later;
       host_later = le_refl _;
@@ -59,7 +59,7 @@ returns g c =
           c.in_ok-kernel.kernel c.in_ok-kernel.ledger c.run_opened-ended.result at.tells at.stays
           at.later
           c.run_opened-ended.ensures.leaves (ready.prepared o) ready.taken;
-      asked = λ n s. written_then c.run_opened-ended.result [] c.args.request.now.names.now
+      asked = λ n. written_then c.run_opened-ended.result [] c.args.request.now.names.now
           c.args.request.now.log.now _ _ _ at.asked (run_later (request_asked
           c.args.request.now) ready.images o (g.F.Files.tells c.prepare.new.files)
           (g.F.Files.content c.prepare.new.files) f c.in_ok-kernel.kernel c.in_ok-kernel.ledger

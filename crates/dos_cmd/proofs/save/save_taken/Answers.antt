@@ -1,6 +1,7 @@
 use Rattle.std.proofs.Common.{Err, le_refl, le_trans, refl, subst, sym, ◌∙◌}
 use Rattle.std.proofs.lemmas.Result.{err_from_is_err_and}
 use Rattle.dos_world.specs.declared.Ending.{Ending}
+use Rattle.dos_world.specs.declared.Scheme.TheVariants.{Ownership}
 use Rattle.group_rounds.specs.Kernels.{kernel_world}
 use Rattle.dos_cmd.specs.Outside.{outside, faults}
 use Rattle.dos_cmd.proofs.Asked.{IsLater, later_opening, later_sink, later_stop, not_saving}
@@ -70,7 +71,7 @@ returns-in-Err-replay_to g c =
     let opening = c.in_ok-kernel.ensures in
     let run = c.in-Err-replay_to.ensures in
     let is = c.config_of.ensures.config in
-    let opened = opened_by c.args.log c.args.images.now c.in_ok-kernel.kernel c.config_of.result is
+    let opened = opened_by Ownership c.args.log c.args.images.now c.in_ok-kernel.kernel c.config_of.result is
     opening.opened in
     record {
       did = tt;
@@ -84,9 +85,9 @@ returns-in-Err-replay_to g c =
           (faults k (g.F.Files.faults c.args.files.now) m m (g.O.Sink.faults c.args.out.now)
           (g.O.Sink.faults c.replay_to.new.out) (g.E.Sink.faults c.args.err.now)
           (g.E.Sink.faults c.replay_to.new.err)) c.in-Err-replay_to.stop _ c.refusal_by.ensures
-          (has_room c.args.log c.args.images.now c.config_of.result is opening.room) run.only
-          (λ found e. run.misfit found (is_err_of _ _ e) c.args.images.now opened)
-          (run.cut c.args.images.now opened) run.sinks
+          (has_room Ownership c.args.log c.args.images.now c.config_of.result is opening.room) run.only
+          (λ found e. run.misfit found (is_err_of _ _ e) Ownership c.args.images.now opened)
+          (run.cut Ownership c.args.images.now opened) run.sinks
           (record { files_stay = stay; host_stays = λ i. h });
       asked = not_saving {T = Ending} (Err _) c.args.to.now _
           (later_stop c.in-Err-replay_to.stop _ c.refusal_by.ensures);
@@ -105,13 +106,13 @@ returns-in-Ok-AtItsEnd g c =
     let opening = c.in_ok-kernel.ensures in
     let run = c.in-Ok-AtItsEnd.ensures in
     let is = c.config_of.ensures.config in
-    let opened = opened_by c.args.log c.args.images.now c.in_ok-kernel.kernel c.config_of.result is
+    let opened = opened_by Ownership c.args.log c.args.images.now c.in_ok-kernel.kernel c.config_of.result is
     opening.opened in
     let arrived = arrived_so c.in-Ok-AtItsEnd.field-0 _ c.args.images.now c.args.log c.args.round
     c.replay_to.new.kernel (g.O.Sink.told c.args.out.now) (g.E.Sink.told c.args.err.now)
     (g.O.Sink.told c.replay_to.new.out) (g.E.Sink.told c.replay_to.new.err)
     (g.W.Workers.tally c.args.workers.now) (g.W.Workers.tally c.replay_to.new.workers)
-    c.in-Ok-AtItsEnd.field-0-is (run.arrived c.args.images.now opened) in
+    c.in-Ok-AtItsEnd.field-0-is (run.arrived Ownership c.args.images.now opened) in
     record {
       did = ended_did c.args.log c.args.images.now c.args.round c.args.to.now
           c.replay_to.new.kernel c.in-Ok-AtItsEnd.ending (g.F.Files.tells c.args.files.now)
@@ -122,7 +123,7 @@ returns-in-Ok-AtItsEnd g c =
           arrived c.report-ended.result
           c.report-ended.ensures.same c.report-ended.ensures.told;
       room = on_ok c.report-ended.result _
-          (has_room c.args.log c.args.images.now c.config_of.result is opening.room);
+          (has_room Ownership c.args.log c.args.images.now c.config_of.result is opening.room);
       leaves = ended_cut c.args.log c.args.images.now c.args.round c.args.to.now
           c.replay_to.new.kernel c.in-Ok-AtItsEnd.ending (g.F.Files.tells c.args.files.now)
           (g.F.Files.content c.args.files.now) (g.O.Sink.told c.args.out.now)
@@ -133,7 +134,7 @@ returns-in-Ok-AtItsEnd g c =
           (g.O.Sink.faults c.args.out.now) (g.O.Sink.faults c.replay_to.new.out)
           (g.E.Sink.faults c.args.err.now) (g.E.Sink.faults c.replay_to.new.err)
           (g.E.Sink.faults c.report-ended.new.err) c.report-ended.result
-          (has_room c.args.log c.args.images.now c.config_of.result is opening.room)
+          (has_room Ownership c.args.log c.args.images.now c.config_of.result is opening.room)
           c.report-ended.ensures.sink run.err_later c.report-ended.ensures.cause
           c.report-ended.ensures.front;
       asked = not_saving c.report-ended.result c.args.to.now _
@@ -152,7 +153,7 @@ returns-in-Ok-AtRound g c =
     let opening = c.in_ok-kernel.ensures in
     let run = c.in-Ok-AtRound.ensures in
     let is = c.config_of.ensures.config in
-    let opened = opened_by c.args.log c.args.images.now c.in_ok-kernel.kernel c.config_of.result is
+    let opened = opened_by Ownership c.args.log c.args.images.now c.in_ok-kernel.kernel c.config_of.result is
     opening.opened in
     let text = text_by c.args.log c.in-Ok-AtRound.used (kernel_world c.replay_to.new.kernel)
     c.in-Ok.digest c.replay_to.new.kernel.config c.in-Ok.ensures.digest
@@ -161,7 +162,7 @@ returns-in-Ok-AtRound g c =
     c.replay_to.new.kernel (g.O.Sink.told c.args.out.now) (g.E.Sink.told c.args.err.now)
     (g.O.Sink.told c.replay_to.new.out) (g.E.Sink.told c.replay_to.new.err)
     (g.W.Workers.tally c.args.workers.now) (g.W.Workers.tally c.replay_to.new.workers)
-    c.in-Ok-AtRound.field-0-is (run.arrived c.args.images.now opened) in
+    c.in-Ok-AtRound.field-0-is (run.arrived Ownership c.args.images.now opened) in
     record {
       did = round_did c.args.log c.args.images.now c.args.round c.in-Ok-AtRound.used c.args.to.now
           _ _ text (g.F.Files.tells c.args.files.now) (g.F.Files.content c.args.files.now)
@@ -175,7 +176,7 @@ returns-in-Ok-AtRound g c =
           c.in-Ok.ensures.digest (run.config ∙ opening.opened.config_is ∙ is)
           c.save_group.ensures.back) c.save_group.ensures.saved;
       room = on_ok c.save_group.result _
-          (has_room c.args.log c.args.images.now c.config_of.result is opening.room);
+          (has_room Ownership c.args.log c.args.images.now c.config_of.result is opening.room);
       leaves = round_leaves c.args.log c.args.images.now c.args.round c.in-Ok-AtRound.used
           c.args.to.now _ _ text (g.F.Files.tells c.args.files.now)
           (g.F.Files.content c.args.files.now) (g.F.Files.content c.save_group.new.files)
@@ -187,7 +188,7 @@ returns-in-Ok-AtRound g c =
           (g.O.Sink.faults c.args.out.now) (g.O.Sink.faults c.replay_to.new.out)
           (g.E.Sink.faults c.args.err.now) (g.E.Sink.faults c.replay_to.new.err)
           (g.E.Sink.faults c.save_group.new.err) c.save_group.result
-          (has_room c.args.log c.args.images.now c.config_of.result is opening.room) run.err_later
+          (has_room Ownership c.args.log c.args.images.now c.config_of.result is opening.room) run.err_later
           c.save_group.ensures.leaves;
       asked = saving_asked c.save_group.result c.args.to.now _ _ c.save_group.ensures.asked;
       files_later = c.save_group.ensures.files_later;

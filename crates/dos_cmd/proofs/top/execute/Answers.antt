@@ -39,11 +39,10 @@ run-requires-clause-planned g c = λ κs alive.
 pub returns-in-Run : goal.returns-in-Run
 returns-in-Run g c =
     let workers = c.in-Run.workers in
-    let scheme = c.in-Run.scheme in
     record {
-      did = did_as _ _ _ _ (c.run.ensures.did workers scheme) c.in-Run.is;
-      leaves = leaves_as _ _ _ _ _ (c.run.ensures.leaves workers scheme) c.in-Run.is;
-      asked = asks_as c.run.result _ _ _ _ c.in-Run.is (c.run.ensures.asked workers scheme);
+      did = did_as _ _ _ _ (c.run.ensures.did workers) c.in-Run.is;
+      leaves = leaves_as _ _ _ _ _ (c.run.ensures.leaves workers) c.in-Run.is;
+      asked = asks_as c.run.result _ _ _ _ c.in-Run.is (c.run.ensures.asked workers);
       files_later = c.run.ensures.files_later;
       host_later = c.run.ensures.host_later;
       host_steady = c.run.ensures.host_steady;
@@ -59,14 +58,13 @@ returns-in-Run g c =
 pub returns-in-Replay : goal.returns-in-Replay
 returns-in-Replay g c =
     let workers = c.in-Replay.workers in
-    let scheme = c.in-Replay.scheme in
     let host = host_seen (g.H.Host.told c.args.host.now) (g.H.Host.asked c.args.host.now) in
     record {
-      did = did_as _ _ _ _ (c.replay.ensures.did workers scheme host) c.in-Replay.is;
-      leaves = leaves_as _ _ _ _ _ (c.replay.ensures.leaves workers scheme host
+      did = did_as _ _ _ _ (c.replay.ensures.did workers host) c.in-Replay.is;
+      leaves = leaves_as _ _ _ _ _ (c.replay.ensures.leaves workers host
           (g.H.Host.faults c.args.host.now)) c.in-Replay.is;
       asked = asks_as c.replay.result _ _ _ _ c.in-Replay.is
-          (c.replay.ensures.asked workers scheme);
+          (c.replay.ensures.asked workers);
       files_later = c.replay.ensures.files_later;
       host_later = le_refl _;
       host_steady = λ _. refl;
