@@ -131,7 +131,8 @@ replayed_must words w s log names taken n o h = of_log taken.log h
     of_log None h = absurd h
     of_log (Some l) h =
         let none : misfit taken.images (config_of s l.header) (exchanges l) ≡ None =
-        fits_have_none 0 (exchanges l) (group taken.images (config_of s l.header)) h.replayed.fits in
+        fits_have_none 0 (exchanges l) (group taken.images (config_of s l.header)) h.replayed.fits
+        in
         subst (λ (m : Option Misfit). MustReplay m s l taken n o) (sym none) h
 
 traced_must : (w : ℕ) (log : Text) (names : List Text) (taken : Taken) (n : ℕ) (o : Outside)
@@ -139,12 +140,14 @@ traced_must : (w : ℕ) (log : Text) (names : List Text) (taken : Taken) (n : �
 traced_must w log names taken n o h = of_log taken.log h
   where
     of_log : (read : Option Log) → OfLog read (λ l. DidTrace l taken.images n o)
-        → OfLog read (λ l. MustTrace (misfit taken.images (config_of Ownership l.header) (exchanges l)) l
+        → OfLog read (λ l. MustTrace (misfit taken.images (config_of Ownership l.header)
+        (exchanges l)) l
         taken n o)
     of_log None h = absurd h
     of_log (Some l) h =
         let none : misfit taken.images (config_of Ownership l.header) (exchanges l) ≡ None =
-        fits_have_none 0 (exchanges l) (group taken.images (config_of Ownership l.header)) h.replayed.fits in
+        fits_have_none 0 (exchanges l) (group taken.images (config_of Ownership l.header))
+        h.replayed.fits in
         subst (λ (m : Option Misfit). MustTrace m l taken n o) (sym none) h
 
 saved_must : (w : ℕ) (log : Text) (round : ℕ) (to : Text) (names : List Text) (taken : Taken)
@@ -158,7 +161,8 @@ saved_must w log round to names taken n o h = of_log taken.log h
     by_misfit (Some found) l h = inl h
 
     of_log : (read : Option Log) → OfLog read (λ l. DidSave l taken.images round to n o)
-        → OfLog read (λ l. MustSave (misfit taken.images (config_of Ownership l.header) (exchanges l)) l
+        → OfLog read (λ l. MustSave (misfit taken.images (config_of Ownership l.header)
+        (exchanges l)) l
         taken round to n o)
     of_log None h = absurd h
     of_log (Some l) h =
@@ -256,7 +260,8 @@ misfit_must (Trace w log names) taken found n o is h = of_log taken.log h
   where
     of_log : (read : Option Log)
         → OfLog read (λ l. MisfittedTrace l taken.images found (line_of (refusals.Misfit found)) o)
-        → OfLog read (λ l. MustTrace (misfit taken.images (config_of Ownership l.header) (exchanges l)) l
+        → OfLog read (λ l. MustTrace (misfit taken.images (config_of Ownership l.header)
+        (exchanges l)) l
         taken n o)
     of_log None h = absurd h
     of_log (Some l) h =
@@ -266,7 +271,8 @@ misfit_must (Save w log round to names) taken found n o is h = of_log taken.log 
     of_log : (read : Option Log)
         → OfLog read (λ l. MisfittedSave l taken.images round found
         (line_of (refusals.Misfit found)) o)
-        → OfLog read (λ l. MustSave (misfit taken.images (config_of Ownership l.header) (exchanges l)) l
+        → OfLog read (λ l. MustSave (misfit taken.images (config_of Ownership l.header)
+        (exchanges l)) l
         taken round to n o)
     of_log None h = absurd h
     of_log (Some l) h =

@@ -97,14 +97,16 @@ module _ (words : List Text) (log : Log) (images : List Image) (round status n :
     together did =
         let resumed : Resumed saved.reached config saved.used log did.seen =
         subst (λ (w : World). Resumed w config saved.used log did.seen) stands did.resumed in
-        let joined = replays_join.ended Ownership images log round saved.used saved.reached saved.output
+        let joined = replays_join.ended Ownership images log round saved.used saved.reached
+        saved.output
         saved.error saved.came.work did.seen saved.came.replayed resumed in
         let all : Seen = seen_joined (take saved.used (exchanges log))
         (exchanges_from saved.used log) saved.output saved.error joined.0 did.seen in
         let none : misfit images config (exchanges log) ≡ None =
         fits_have_none 0 (exchanges log) (group images config) joined.1.fits in
         let replay : DidReplay Ownership log images status whole =
-        subst (λ (m : Option Misfit). MustReplay m Ownership log (taken_log log images) status whole) none
+        subst (λ (m : Option Misfit). MustReplay m Ownership log (taken_log log images) status
+        whole) none
         replayed in
         let same : replay.seen ≡ all =
         same_seen (machine images config (map answer_of (exchanges log))) replay.seen all
@@ -132,11 +134,13 @@ module _ (words : List Text) (log : Log) (images : List Image) (round status n :
         let resumed : ResumedUntil saved.reached config saved.used log found run.output run.error
         run.work = subst (λ (w : World). ResumedUntil w config saved.used log found run.output
         run.error run.work) stands run.resumed in
-        let joined = replays_join.misfits Ownership images log round saved.used saved.reached saved.output
+        let joined = replays_join.misfits Ownership images log round saved.used saved.reached
+        saved.output
         saved.error work found run.output run.error run.work saved.came.replayed resumed in
         let replay : (status ≡ refusal_status (refusals.Misfit found))
         × Misfitted Ownership log images found (line_of (refusals.Misfit found)) whole =
-        subst (λ (m : Option Misfit). MustReplay m Ownership log (taken_log log images) status whole)
+        subst (λ (m : Option Misfit). MustReplay m Ownership log (taken_log log images) status
+        whole)
         joined.1.is replayed in
         let same = same_bytes
         (over (map answer_of (take found.entry (exchanges log))) (group images config))

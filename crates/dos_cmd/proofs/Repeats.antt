@@ -160,7 +160,8 @@ module _ (o p : Outside) (asked : RunAsked) (images : List Image) (status n : �
       let replay : DidReplay scheme did.log images n p = subst (λ (m : Option Misfit). MustReplay m
       scheme did.log (taken_log did.log images) n p) again.1 must in
       let same : did.seen ≡ replay.seen = same_seen
-      (machine images (config_of scheme did.log.header) (map answer_of (exchanges did.log))) did.seen
+      (machine images (config_of scheme did.log.header) (map answer_of (exchanges did.log)))
+      did.seen
       replay.seen again.0.is replay.replayed.is in
       record {
         status_is = replay.status_is ∙ sym (ap (λ (s : Seen). ending_status s.ending) same)
@@ -202,7 +203,8 @@ repeats first words status n o p done s must =
     let found = images_told 1 (map o.files s.asked.names) s.digests s.are_there in
     let taken = run_taken s.asked.config.frames found.0 begun.taken
     (subst (λ (t : Option Images). IfSome
-    (option_map (λ i. of_images (with_room s.asked.config.frames i)) t) (λ j. j ≡ Ok begun.taken)) found.1
+    (option_map (λ i. of_images (with_room s.asked.config.frames i)) t) (λ j. j ≡ Ok begun.taken))
+    found.1
     begun.is) in
     shown_again o p s.asked images status n begun.so
     (must (Replay s.workers_again s.asked.config.scheme s.log s.names)

@@ -39,11 +39,14 @@ use Rattle.dos_cmd.proofs.RunEnds.{then_rose}
 
 -- ---- it isn't opened
 
-pub not_opened : (scheme : Scheme) (log : Log) (images : List Image) (o : Outside) (f : Faults) (why : Refusal)
-    (config : Config) → config ≡ config_of scheme log.header → IsNotOpened images config why → Says o []
+pub not_opened : (scheme : Scheme) (log : Log) (images : List Image) (o : Outside) (f : Faults)
+    (why : Refusal)
+    (config : Config) → config ≡ config_of scheme log.header → IsNotOpened images config why → Says
+    o []
     → LeavesTaken scheme log images o f why
 not_opened scheme log images o f why config is h says =
-    not_opened_as images (config_of scheme log.header) why (λ (w : Refusal). LeavesTaken scheme log images o f w)
+    not_opened_as images (config_of scheme log.header) why
+    (λ (w : Refusal). LeavesTaken scheme log images o f w)
     (subst (λ (c : Config). IsNotOpened images c why) is h) (λ over. (refl, refl, over, says)) says
 
 -- the log's frames
@@ -52,7 +55,8 @@ pub has_room : (scheme : Scheme) (log : Log) (images : List Image) (config : Con
     → needed images ≤ log.header.frames
 has_room scheme log images config is fits = subst (λ (c : Config). needed images ≤ c.frames) is fits
 
-pub opened_by : (scheme : Scheme) (log : Log) (images : List Image) (kernel : Held) (config : Config)
+pub opened_by : (scheme : Scheme) (log : Log) (images : List Image) (kernel : Held)
+    (config : Config)
     → config ≡ config_of scheme log.header → IsOpenedWith kernel images config
     → IsOpenedWith kernel images (config_of scheme log.header)
 opened_by scheme log images kernel config is opened =
@@ -70,7 +74,8 @@ Until scheme log images o found = (output : List ℕ) × (error : List ℕ) × (
     × ReplayedUntil scheme images log found output error work
     × Halted o.out o.err o.out_after o.err_after o.tally o.tally_after output error work
 
-pub replay_stopped : (scheme : Scheme) (log : Log) (images : List Image) (o : Outside) (f : Faults) (stop : RunStop)
+pub replay_stopped : (scheme : Scheme) (log : Log) (images : List Image) (o : Outside) (f : Faults)
+    (stop : RunStop)
     (why : Refusal) → why ≡ refusal_by stop → needed images ≤ log.header.frames → StopsReplay stop
     → ((found : Misfit) → stop ≡ stops.Misfit found → Until scheme log images o found)
     → ((output : List ℕ) × (error : List ℕ) × (work : ℕ)
@@ -79,7 +84,8 @@ pub replay_stopped : (scheme : Scheme) (log : Log) (images : List Image) (o : Ou
     → HasSinkCause stop f.out f.out_after f.err f.err_after → StaysAll o
     → LeavesTaken scheme log images o f why
 replay_stopped scheme log images o f stop why is fits only until ahead sink stay =
-    subst (λ (w : Refusal). LeavesTaken scheme log images o f w) (sym is) (by_stop stop only until sink)
+    subst (λ (w : Refusal). LeavesTaken scheme log images o f w) (sym is)
+    (by_stop stop only until sink)
   where
     cut : CutReplay scheme log images o
     cut = record {
@@ -123,7 +129,8 @@ abbrev pub Whole : Scheme → (kernel after : Held) → Log → Ending
     → (out err out_after err_then : Option (List ℕ)) → (tally tally_after : ℕ) → Type 0
 Whole scheme kernel after log ending out err out_after err_then tally tally_after =
     (i : List Image) → IsOpenedWith kernel i (config_of scheme log.header) → (seen : Seen)
-    × Replayed scheme i log seen × Ended after ending seen out err out_after err_then tally tally_after
+    × Replayed scheme i log seen × Ended after ending seen out err out_after err_then tally
+    tally_after
 
 module _ (scheme : Scheme) (log : Log) (images : List Image) (kernel after : Held) (ending : Ending)
     (out err out1 err_then err1 : Option (List ℕ)) (tally tally1 : ℕ)
@@ -188,7 +195,8 @@ pub same_images : (told : Option Judgement) (log : Log) (images others : List Im
 same_images told log images others e h =
     subst (λ (x : List Image). IfSome told (λ j. j ≡ agreed log x None)) (sym e) h
 
-pub replay_begun : (scheme : Scheme) (log : Log) (images : List Image) (name : Text) (names : List Text)
+pub replay_begun : (scheme : Scheme) (log : Log) (images : List Image) (name : Text)
+    (names : List Text)
     (tells : Bool) (f f' : Text → Option (List ℕ)) (out err out1 err1 : Option (List ℕ))
     (tally tally1 : ℕ) (r : Result Ending Refusal)
     → IfSome (replay_judgement (f name) (map f names)) (λ j. j ≡ agreed log images None)
@@ -200,9 +208,11 @@ pub replay_begun : (scheme : Scheme) (log : Log) (images : List Image) (name : T
     (outside tells f f' h h out out1 err err1 tally tally1)
     (λ taken. Did (requests.Replay n scheme name names) taken (ending_status ended)
     (outside tells f f' h h out out1 err err1 tally tally1)))
-replay_begun scheme log images name names tells f f' out err out1 err1 tally tally1 (Err why) told fits
+replay_begun scheme log images name names tells f f' out err out1 err1 tally tally1 (Err why) told
+    fits
     stay did = λ n h. tt
-replay_begun scheme log images name names tells f f' out err out1 err1 tally tally1 (Ok ended) told fits
+replay_begun scheme log images name names tells f f' out err out1 err1 tally tally1 (Ok ended) told
+    fits
     stay did = λ n h. record {
       taken = taken_log log images;
       is = room_taken (replay_judgement (f name) (map f names)) log images fits told;
@@ -237,7 +247,8 @@ leaves_taken scheme log images name names n o f refusals.Sink told h = (
 leaves_taken scheme log images name names n o f refusals.Memory told h = inl h
 leaves_taken scheme log images name names n o f why told h = absurd h
 
-pub replay_leaves : (scheme : Scheme) (log : Log) (images : List Image) (name : Text) (names : List Text)
+pub replay_leaves : (scheme : Scheme) (log : Log) (images : List Image) (name : Text)
+    (names : List Text)
     (tells : Bool) (f f' : Text → Option (List ℕ)) (out err out1 err1 : Option (List ℕ))
     (tally tally1 k k' oc oc1 ec ec1 : ℕ) (r : Result Ending Refusal)
     → IfSome (replay_judgement (f name) (map f names)) (λ j. j ≡ agreed log images None)
@@ -248,15 +259,19 @@ pub replay_leaves : (scheme : Scheme) (log : Log) (images : List Image) (name : 
     → (n : ℕ) (h : HostSeen) (m : ℕ) → IfErr r (λ why.
     Leaves (requests.Replay n scheme name names)
     (outside tells f f' h h out out1 err err1 tally tally1) (faults k k' m m oc oc1 ec ec1) why [])
-replay_leaves scheme log images name names tells f f' out err out1 err1 tally tally1 k k' oc oc1 ec ec1
+replay_leaves scheme log images name names tells f f' out err out1 err1 tally tally1 k k' oc oc1 ec
+    ec1
     (Ok ended) told stay leaves = λ n h m. tt
-replay_leaves scheme log images name names tells f f' out err out1 err1 tally tally1 k k' oc oc1 ec ec1
+replay_leaves scheme log images name names tells f f' out err out1 err1 tally tally1 k k' oc oc1 ec
+    ec1
     (Err why) told stay leaves = λ n h m.
-    leaves_taken scheme log images name names n (outside tells f f' h h out out1 err err1 tally tally1)
+    leaves_taken scheme log images name names n (outside tells f f' h h out out1 err err1 tally
+    tally1)
     (faults k k' m m oc oc1 ec ec1) why told (leaves tells f f' h k k' m stay)
 
 -- All files were read before.
-pub replay_later : (scheme : Scheme) (log : Log) (images : List Image) (out err out1 err1 : Option (List ℕ))
+pub replay_later : (scheme : Scheme) (log : Log) (images : List Image)
+    (out err out1 err1 : Option (List ℕ))
     (tally tally1 oc oc1 ec ec1 : ℕ) (r : Result Ending Refusal)
     → IfErr r (λ why. (tells : Bool) (f f' : Text → Option (List ℕ)) (h : HostSeen)
     (k k' m : ℕ) → ((n : Text) → f' n ≡ f n) → LeavesTaken scheme log images

@@ -178,14 +178,16 @@ pub arrived_so : (arrived known : Arrived) (images : List Image) (log : Log) (ro
     → Arrives Ownership arrived images log round kernel out err out1 err1 tally tally1
     → Arrives Ownership known images log round kernel out err out1 err1 tally tally1
 arrived_so arrived known images log round kernel out err out1 err1 tally tally1 is h =
-    subst (λ (a : Arrived). Arrives Ownership a images log round kernel out err out1 err1 tally tally1) is h
+    subst (λ (a : Arrived). Arrives Ownership a images log round kernel out err out1 err1 tally
+    tally1) is h
 
 -- ---- a run that came to its end before the round
 
 module _ (log : Log) (images : List Image) (round : ℕ) (to : Text) (after : Held) (ending : Ending)
     (tells : Bool) (f' : Text → Option (List ℕ)) (out err out1 err_then err1 : Option (List ℕ))
     (tally tally1 : ℕ) (run : (seen : Seen)
-    × Replayed Ownership images log seen × Ended after ending seen out err out1 err_then tally tally1
+    × Replayed Ownership images log seen × Ended after ending seen out err out1 err_then tally
+    tally1
     × (seen.rounds < round)) where
   pub ended_did : (r : Result Ending Refusal) → IfOk r (λ ended. ended ≡ ending)
       → OnOk r (err1 ≡ grown err_then (report_in (kernel_world after) ending))
@@ -379,11 +381,13 @@ text_by log used reached digest config is same = rw (is, same) refl
 
 -- and the group
 pub back_by : (r : Result Ending Refusal) (log : Log) (used : ℕ) (reached : World)
-    (digest : List ℕ) (config : Config) → digest ≡ log_digest log → config ≡ config_of Ownership log.header
+    (digest : List ℕ) (config : Config) → digest ≡ log_digest log → config ≡ config_of Ownership
+    log.header
     → IfOk r (λ _. ComesBack (group_of digest used config reached) reached)
     → IfOk r (λ _. ComesBack (saved_group log used reached) reached)
 back_by r log used reached digest config is same back =
-    subst (λ (d : List ℕ). IfOk r (λ _. ComesBack (group_of d used (config_of Ownership log.header) reached)
+    subst (λ (d : List ℕ). IfOk r (λ _. ComesBack (group_of d used (config_of Ownership log.header)
+    reached)
     reached)) is
     (subst (λ (c : Config). IfOk r (λ _. ComesBack (group_of digest used c reached) reached)) same
     back)

@@ -39,10 +39,12 @@ use Rattle.dos_cmd.proofs.ReplayTaking.{room_refused, room_taken}
 -- ---- it isn't opened
 
 pub trace_not_opened : (log : Log) (images : List Image) (o : Outside) (f : Faults) (why : Refusal)
-    (config : Config) → config ≡ config_of Ownership log.header → IsNotOpened images config why → Says o []
+    (config : Config) → config ≡ config_of Ownership log.header → IsNotOpened images config why
+    → Says o []
     → LeavesTrace log images o f why
 trace_not_opened log images o f why config is h says =
-    not_opened_as images (config_of Ownership log.header) why (λ (w : Refusal). LeavesTrace log images o f w)
+    not_opened_as images (config_of Ownership log.header) why
+    (λ (w : Refusal). LeavesTrace log images o f w)
     (subst (λ (c : Config). IsNotOpened images c why) is h) (λ over. (refl, refl, over, says)) says
 
 -- ---- a run that stopped

@@ -119,8 +119,8 @@ run_taken = taken_images images
 run_takes : (contents : Text → Option (List ℕ)) → contents (codes "a") ≡ Some file
     → judgement contents run_asked ≡ Some (Ok run_taken)
 run_takes contents a = ap (λ (f : Option (List ℕ)). option_map
-    (λ found. of_images (with_room config found)) (images_from 1 (f ∷ []))) a
-    ∙ ap (option_map (λ found. of_images (with_room config found))) images_are
+    (λ found. of_images (with_room config.frames found)) (images_from 1 (f ∷ []))) a
+    ∙ ap (option_map (λ found. of_images (with_room config.frames found))) images_are
 
 -- the file's digest (SHA-256, FIPS 180-4)
 abbrev digest : List ℕ

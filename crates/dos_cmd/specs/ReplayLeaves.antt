@@ -21,7 +21,8 @@ pub record StaysAll (o : Outside) : Type 0 where
   pub files_stay : FilesStay o
   pub host_stays : HostStays o
 
--- The run, by this scheme, fits the log, and was done: the outputs grew by its bytes and the report.
+-- The run, by this scheme, fits the log, and was done: the outputs grew by its bytes and the
+-- report.
 pub record DidReplay (scheme : Scheme) (log : Log) (images : List Image) (status : ℕ) (o : Outside)
     : Type 0 where
   pub seen : Seen
@@ -44,7 +45,8 @@ pub record Misfitted (scheme : Scheme) (log : Log) (images : List Image) (found 
   pub stays : StaysAll o
 
 -- An output failed in the run.
-pub record CutReplay (scheme : Scheme) (log : Log) (images : List Image) (o : Outside) : Type 0 where
+pub record CutReplay (scheme : Scheme) (log : Log) (images : List Image) (o : Outside) : Type 0
+    where
   pub output : List ℕ
   pub error : List ℕ
   pub work : ℕ

@@ -31,7 +31,8 @@ log_digest log = sha256 (logtext log)
 
 -- the group that is saved in this world, behind so many exchanges of the log
 abbrev pub saved_group : Log → (used : ℕ) → World → SavedGroup
-saved_group log used reached = group_of (log_digest log) used (config_of Ownership log.header) reached
+saved_group log used reached = group_of (log_digest log) used (config_of Ownership log.header)
+    reached
 
 -- its text
 abbrev pub saved_text : Log → (used : ℕ) → World → List ℕ

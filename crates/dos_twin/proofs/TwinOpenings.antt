@@ -23,11 +23,11 @@ use Rattle.dos_twin.specs.TwinImages.{AreBothOpened, IsNotRead, twin_config, twi
 -- ---- room
 
 has_room : (images : List Image) → needed images ≤ twin_config.frames
-    → with_room twin_config (Ok images) ≡ Ok images
+    → with_room twin_config.frames (Ok images) ≡ Ok images
 has_room images fits = rw (le-ltb twin_config.frames (needed images) fits) refl
 
 no_room : (images : List Image) → twin_config.frames < needed images
-    → with_room twin_config (Ok images)
+    → with_room twin_config.frames (Ok images)
     ≡ Err (refusals.NoRoom (needed images) twin_config.frames)
 no_room images over =
     let more : nat_lt twin_config.frames (needed images) ≡ true = grind (arith, nat_tests) in
@@ -39,10 +39,11 @@ no_room_so n frames needs has a b = cc
 
 -- ---- what all files are taken for, from what their images are
 
-then_judged : (told : Option Images) (images j : Images) → with_room twin_config images ≡ j
-    → IfSome told (λ i. i ≡ images) → IfSome (option_map (with_room twin_config) told) (λ k. k ≡ j)
+then_judged : (told : Option Images) (images j : Images) → with_room twin_config.frames images ≡ j
+    → IfSome told (λ i. i ≡ images) → IfSome (option_map (with_room twin_config.frames) told)
+    (λ k. k ≡ j)
 then_judged None images j e h = tt
-then_judged (Some i) images j e h = ap (with_room twin_config) h ∙ e
+then_judged (Some i) images j e h = ap (with_room twin_config.frames) h ∙ e
 
 -- the same images under another name
 same_images : (told : Option Images) (images others : List Image) → images ≡ others

@@ -18,7 +18,7 @@ twin_config = record { quantum = 1000; rounds = 100000; frames = 4096; scheme = 
 -- What the files of these names are taken for; None where that is left open.
 abbrev pub twin_images : (Text → Option (List ℕ)) → List Text → Option Images
 twin_images contents names =
-    option_map (with_room twin_config) (images_from 1 (map contents names))
+    option_map (with_room twin_config.frames) (images_from 1 (map contents names))
 
 -- The images that the files are taken for, as far as they tell, and what is then so.
 pub record TwinBegun (names : List Text) (o : TwinOutside) (P : List Image → Type 0) : Type 0

@@ -37,7 +37,8 @@ pub returns : goal.returns
 returns g c =
     let take = c.in_ok-log.ensures in
     record {
-      did = replay_begun c.args.scheme c.in_ok-log.log c.deref.result.now c.args.log.now c.args.names.now
+      did = replay_begun c.args.scheme c.in_ok-log.log c.deref.result.now c.args.log.now
+          c.args.names.now
           (g.F.Files.tells c.args.files.now) (g.F.Files.content c.args.files.now)
           (g.F.Files.content c.take.new.files) (g.O.Sink.told c.args.out.now)
           (g.E.Sink.told c.args.err.now) (g.O.Sink.told c.replay_taken.new.out)
@@ -45,7 +46,8 @@ returns g c =
           (g.W.Workers.tally c.replay_taken.new.workers) c.replay_taken.result
           (same_images _ c.in_ok-log.log _ _ c.deref.ensures.value take.taken)
           c.replay_taken.ensures.room take.stays c.replay_taken.ensures.did;
-      leaves = replay_leaves c.args.scheme c.in_ok-log.log c.deref.result.now c.args.log.now c.args.names.now
+      leaves = replay_leaves c.args.scheme c.in_ok-log.log c.deref.result.now c.args.log.now
+          c.args.names.now
           (g.F.Files.tells c.args.files.now) (g.F.Files.content c.args.files.now)
           (g.F.Files.content c.take.new.files) (g.O.Sink.told c.args.out.now)
           (g.E.Sink.told c.args.err.now) (g.O.Sink.told c.replay_taken.new.out)
@@ -57,7 +59,8 @@ returns g c =
           (same_images _ c.in_ok-log.log _ _ c.deref.ensures.value take.taken) take.stays
           c.replay_taken.ensures.leaves;
       asked = λ n. all_read c.replay_taken.result (c.args.log.now ∷ []) c.args.names.now _ _
-          (replay_later c.args.scheme c.in_ok-log.log c.deref.result.now (g.O.Sink.told c.args.out.now)
+          (replay_later c.args.scheme c.in_ok-log.log c.deref.result.now
+          (g.O.Sink.told c.args.out.now)
           (g.E.Sink.told c.args.err.now) (g.O.Sink.told c.replay_taken.new.out)
           (g.E.Sink.told c.replay_taken.new.err) (g.W.Workers.tally c.args.workers.now)
           (g.W.Workers.tally c.replay_taken.new.workers) (g.O.Sink.faults c.args.out.now)

@@ -37,7 +37,8 @@ returns-in-Err g c = record {
       let opening = c.in_ok-kernel.ensures in
       let run = c.in-Err.ensures in
       let is = c.config_of.ensures.config in
-      let opened = opened_by c.args.scheme c.args.log c.args.images.now c.in_ok-kernel.kernel c.config_of.result
+      let opened = opened_by c.args.scheme c.args.log c.args.images.now c.in_ok-kernel.kernel
+      c.config_of.result
       is
       opening.opened in
       replay_stopped c.args.scheme c.args.log c.args.images.now
@@ -47,7 +48,8 @@ returns-in-Err g c = record {
       (faults k k' m m (g.O.Sink.faults c.args.out.now) (g.O.Sink.faults c.replay_group.new.out)
       (g.E.Sink.faults c.args.err.now) (g.E.Sink.faults c.replay_group.new.err)) c.in-Err.stop _
       c.refusal_by.ensures
-      (has_room c.args.scheme c.args.log c.args.images.now c.config_of.result is opening.room) run.only
+      (has_room c.args.scheme c.args.log c.args.images.now c.config_of.result is opening.room)
+      run.only
       (λ found e. run.misfit found (is_err_of _ _ e) c.args.scheme c.args.images.now opened)
       (run.cut c.args.scheme c.args.images.now opened) run.sinks
       (record { files_stay = stay; host_stays = λ i. h });
@@ -65,14 +67,17 @@ returns-in-Ok g c =
     let opening = c.in_ok-kernel.ensures in
     let run = c.in-Ok.ensures in
     let is = c.config_of.ensures.config in
-    let opened = opened_by c.args.scheme c.args.log c.args.images.now c.in_ok-kernel.kernel c.config_of.result is
+    let opened = opened_by c.args.scheme c.args.log c.args.images.now c.in_ok-kernel.kernel
+    c.config_of.result is
     opening.opened in
     record {
-      did = replay_did c.args.scheme c.args.log c.args.images.now c.in_ok-kernel.kernel c.replay_group.new.kernel
+      did = replay_did c.args.scheme c.args.log c.args.images.now c.in_ok-kernel.kernel
+          c.replay_group.new.kernel
           c.in-Ok.ending (g.O.Sink.told c.args.out.now) (g.E.Sink.told c.args.err.now)
           (g.O.Sink.told c.replay_group.new.out) (g.E.Sink.told c.replay_group.new.err)
           (g.E.Sink.told c.report-ended.new.err) (g.W.Workers.tally c.args.workers.now)
-          (g.W.Workers.tally c.replay_group.new.workers) opened (run.ran c.args.scheme) c.report-ended.result
+          (g.W.Workers.tally c.replay_group.new.workers) opened (run.ran c.args.scheme)
+          c.report-ended.result
           c.report-ended.ensures.same c.report-ended.ensures.told;
       room = on_ok c.report-ended.result _
           (has_room c.args.scheme c.args.log c.args.images.now c.config_of.result is opening.room);

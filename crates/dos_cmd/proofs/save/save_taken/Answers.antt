@@ -71,7 +71,8 @@ returns-in-Err-replay_to g c =
     let opening = c.in_ok-kernel.ensures in
     let run = c.in-Err-replay_to.ensures in
     let is = c.config_of.ensures.config in
-    let opened = opened_by Ownership c.args.log c.args.images.now c.in_ok-kernel.kernel c.config_of.result is
+    let opened = opened_by Ownership c.args.log c.args.images.now c.in_ok-kernel.kernel
+    c.config_of.result is
     opening.opened in
     record {
       did = tt;
@@ -85,7 +86,8 @@ returns-in-Err-replay_to g c =
           (faults k (g.F.Files.faults c.args.files.now) m m (g.O.Sink.faults c.args.out.now)
           (g.O.Sink.faults c.replay_to.new.out) (g.E.Sink.faults c.args.err.now)
           (g.E.Sink.faults c.replay_to.new.err)) c.in-Err-replay_to.stop _ c.refusal_by.ensures
-          (has_room Ownership c.args.log c.args.images.now c.config_of.result is opening.room) run.only
+          (has_room Ownership c.args.log c.args.images.now c.config_of.result is opening.room)
+          run.only
           (λ found e. run.misfit found (is_err_of _ _ e) Ownership c.args.images.now opened)
           (run.cut Ownership c.args.images.now opened) run.sinks
           (record { files_stay = stay; host_stays = λ i. h });
@@ -106,7 +108,8 @@ returns-in-Ok-AtItsEnd g c =
     let opening = c.in_ok-kernel.ensures in
     let run = c.in-Ok-AtItsEnd.ensures in
     let is = c.config_of.ensures.config in
-    let opened = opened_by Ownership c.args.log c.args.images.now c.in_ok-kernel.kernel c.config_of.result is
+    let opened = opened_by Ownership c.args.log c.args.images.now c.in_ok-kernel.kernel
+    c.config_of.result is
     opening.opened in
     let arrived = arrived_so c.in-Ok-AtItsEnd.field-0 _ c.args.images.now c.args.log c.args.round
     c.replay_to.new.kernel (g.O.Sink.told c.args.out.now) (g.E.Sink.told c.args.err.now)
@@ -153,7 +156,8 @@ returns-in-Ok-AtRound g c =
     let opening = c.in_ok-kernel.ensures in
     let run = c.in-Ok-AtRound.ensures in
     let is = c.config_of.ensures.config in
-    let opened = opened_by Ownership c.args.log c.args.images.now c.in_ok-kernel.kernel c.config_of.result is
+    let opened = opened_by Ownership c.args.log c.args.images.now c.in_ok-kernel.kernel
+    c.config_of.result is
     opening.opened in
     let text = text_by c.args.log c.in-Ok-AtRound.used (kernel_world c.replay_to.new.kernel)
     c.in-Ok.digest c.replay_to.new.kernel.config c.in-Ok.ensures.digest
@@ -188,7 +192,8 @@ returns-in-Ok-AtRound g c =
           (g.O.Sink.faults c.args.out.now) (g.O.Sink.faults c.replay_to.new.out)
           (g.E.Sink.faults c.args.err.now) (g.E.Sink.faults c.replay_to.new.err)
           (g.E.Sink.faults c.save_group.new.err) c.save_group.result
-          (has_room Ownership c.args.log c.args.images.now c.config_of.result is opening.room) run.err_later
+          (has_room Ownership c.args.log c.args.images.now c.config_of.result is opening.room)
+          run.err_later
           c.save_group.ensures.leaves;
       asked = saving_asked c.save_group.result c.args.to.now _ _ c.save_group.ensures.asked;
       files_later = c.save_group.ensures.files_later;

@@ -49,7 +49,8 @@ returns-in-Err g c =
           (faults k k' m m (g.O.Sink.faults c.args.out.now) (g.O.Sink.faults c.trace_log.new.lines)
           (g.E.Sink.faults c.args.err.now) (g.E.Sink.faults c.args.err.now)) c.in-Err.stop _
           c.trace_refusal.ensures
-          (has_room Ownership c.args.log c.args.images.now c.config_of.result is opening.room) run.only
+          (has_room Ownership c.args.log c.args.images.now c.config_of.result is opening.room)
+          run.only
           (λ found e. run.misfit found e c.args.images.now opened)
           (λ e. run.cut e c.args.images.now opened) run.memory run.rested run.cause refl
           (record { files_stay = stay; host_stays = λ i. h });
@@ -66,7 +67,8 @@ returns-in-Ok g c =
     let opening = c.in_ok-kernel.ensures in
     let run = c.in-Ok.ensures in
     let is = c.config_of.ensures.config in
-    let opened = opened_by Ownership c.args.log c.args.images.now c.in_ok-kernel.kernel c.config_of.result is
+    let opened = opened_by Ownership c.args.log c.args.images.now c.in_ok-kernel.kernel
+    c.config_of.result is
     opening.opened in
     record {
       did = trace_did c.args.log c.args.images.now c.in_ok-kernel.kernel c.trace_log.new.kernel
