@@ -2,6 +2,7 @@
 ghost use Rattle.std.specs.Prelude.{◌≡◌, ◌≢◌, ◌≤◌, ℕ, List, Option, [], ◌∷◌, length, IfOk, IfErr};
 ghost use Rattle.std.specs.Prelude.{OnErr, OnOk, Err, false};
 ghost use Rattle.dos_io.specs.Outside.{GrewByFront, grown};
+ghost use Rattle.dos_world.specs.declared.Scheme.TheVariants.{Ownership};
 ghost use Rattle.group_text.specs.GroupText.{grouptext};
 ghost use Rattle.group_text.specs.Groups.{group_of};
 ghost use Rattle.logged_runs.specs.Recording.{HostSeen};
@@ -48,6 +49,7 @@ fn digest(alloc: Global, log: &Log) -> Result<[u8; 32], Refusal>
 /// The text of a kernel's group, which is taken apart. A file that holds it is taken for the group.
 fn text_of(alloc: Global, kernel: Kernel, used: u32, digest: [u8; 32]) -> Result<Vec<u8>, Refusal>
     requires running { kernel.failed ≡ false }
+    requires scheme { kernel.config.scheme ≡ Ownership }
     ensures text { IfOk result (λ text. text.items
         ≡ grouptext (group_of digest used kernel.config (kernel_world kernel))) }
     ensures back { IfOk result (λ _. ComesBack
@@ -104,6 +106,7 @@ fn save_group<F: Files, E: Sink>(
     err: &mut E,
 ) -> Result<Ending, Refusal>
     requires running { kernel.failed ≡ false }
+    requires scheme { kernel.config.scheme ≡ Ownership }
     ensures saved { IfOk result (λ ending. WasSaved
         (grouptext (group_of digest used kernel.config (kernel_world kernel))) round to.now ending
         (F.tells files.old) (F.content files.old) (F.content files.new) (E.told err.old)
