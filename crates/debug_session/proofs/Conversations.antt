@@ -40,7 +40,12 @@ abbrev pub exits_with_7 : Image
 exits_with_7 = program (0x00200893 ∷ 0x00700513 ∷ 0x00000073 ∷ [])
 
 abbrev pub with_quantum : (quantum frames : ℕ) → Config
-with_quantum quantum frames = record { quantum = quantum; rounds = 100000; frames = frames; scheme = Ownership }
+with_quantum quantum frames = record {
+  quantum = quantum;
+  rounds = 100000;
+  frames = frames;
+  scheme = Ownership;
+}
 
 abbrev pub with_frames : ℕ → Config
 with_frames frames = with_quantum 1000 frames

@@ -8,7 +8,7 @@ use Rattle.group_moves.specs.Places.{Place, between_rounds, before_parts, before
 use Rattle.group_moves.specs.Places.{within_rest, at_end}
 use Rattle.group_moves.specs.Moves.{MoveKind}
 use Rattle.group_moves.specs.Moments.{kind_at}
-use Rattle.group_walk.specs.Places.{phase_of}
+use Rattle.group_walk.specs.Places.{phase_at}
 use Rattle.debug_session.specs.Positions.{Position, first_kind}
 use Rattle.debug_session.specs.Recordings.{Recording, misfit_here}
 use Rattle.debug_session.specs.Where.{phase_word, last_text, ending_text, misfit_text, next_text}
@@ -20,7 +20,7 @@ use Rattle.debug_where.specs.declared.here.Here.{Here}
 use Rattle.debug_where.specs.declared.here.Next.{Next}
 use Rattle.debug_where.specs.declared.here.Next.TheVariants.{Follows, HasEnded, Misfits}
 
-phase_said : (place : Place) → phase_word place ≡ phase_words (phase_of place)
+phase_said : (place : Place) → phase_word place ≡ phase_words (phase_at place)
 phase_said between_rounds = refl
 phase_said (before_parts starters threads) = refl
 phase_said (within_part starters t ts) = refl

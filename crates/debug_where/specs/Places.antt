@@ -2,7 +2,7 @@
 use Rattle.std.specs.Prelude.{ℕ, ◌≡◌, ◌++◌, List, [], ◌∷◌, length, Option, Some, None, IsSome}
 use Rattle.std.specs.Prelude.{codes, decimal}
 use Rattle.group_moves.specs.Moments.{ending_at, kind_at}
-use Rattle.group_walk.specs.Places.{phase_of}
+use Rattle.group_walk.specs.Places.{phase_at}
 use Rattle.group_walk.specs.Walks.{kind_named, kinds_named}
 use Rattle.group_walk.specs.declared.walker.MoveKind.{MoveKind}
 use Rattle.group_walk.specs.declared.walker.Phase.{Phase}
@@ -63,7 +63,7 @@ IsNextHere (Misfits found) r at =
 pub record IsHere (here : Here) (r : Recording) (at : Position) : Type 0 where
   pub begun : at.moment.begun_rounds ≡ here.begun
   pub made : at.moment.made ≡ here.made
-  pub phase : phase_of at.moment.place ≡ here.phase
+  pub phase : phase_at at.moment.place ≡ here.phase
   pub last : first_kind at.past ≡ kinds_named here.last
   pub next : IsNextHere here.next r at
   pub used : used_entries r at ≡ here.used

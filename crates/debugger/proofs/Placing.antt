@@ -5,7 +5,7 @@ use Rattle.std.specs.Prelude.{IsSome}
 use Rattle.dos_world.specs.declared.Ending.{Ending}
 use Rattle.dos_world.specs.declared.Misfit.{Misfit}
 use Rattle.group_moves.specs.Moments.{Moment, kind_at}
-use Rattle.group_walk.specs.Places.{phase_of}
+use Rattle.group_walk.specs.Places.{phase_at}
 use Rattle.group_walk.specs.Walks.{kind_named, kinds_named}
 use Rattle.group_walk.specs.declared.walker.MoveKind.{MoveKind}
 use Rattle.debug_session.specs.Positions.{Position, first_kind, position_after}
@@ -39,7 +39,7 @@ module _ (k : SessionView) (ready : IsSessionReady k) (start : Position)
   -- It is there that the walk stands.
   pub is_here : (r : Recording) → r.entries ≡ k.playback.entries → (place : Here)
       → place.begun ≡ k.playback.walk.begun_rounds → place.made ≡ k.playback.walk.made
-      → phase_of k.playback.walk.place ≡ place.phase
+      → phase_at k.playback.walk.place ≡ place.phase
       → first_kind (here k start).past ≡ kinds_named place.last
       → IsNextHere place.next r (here k start)
       → place.used ≡ k.playback.used → length k.playback.entries ≡ place.entries
@@ -49,7 +49,7 @@ module _ (k : SessionView) (ready : IsSessionReady k) (start : Position)
       record {
         begun = ap (λ (m : Moment). m.begun_rounds) there.moment ∙ sym begun;
         made = ap (λ (m : Moment). m.made) there.moment ∙ sym made;
-        phase = ap (λ (m : Moment). phase_of m.place) there.moment ∙ phase;
+        phase = ap (λ (m : Moment). phase_at m.place) there.moment ∙ phase;
         last = last;
         next = next;
         used = there.used r same ∙ sym used;
@@ -81,7 +81,7 @@ module _ {v k : SessionView} (is : v ≡ k) (keeps : v.failed ≡ false → IsSe
       ∙ none_led v ready_then start start_then none
 
   pub is_here_so : (place : Here) → place.begun ≡ v.playback.walk.begun_rounds
-      → place.made ≡ v.playback.walk.made → phase_of v.playback.walk.place ≡ place.phase
+      → place.made ≡ v.playback.walk.made → phase_at v.playback.walk.place ≡ place.phase
       → place.used ≡ v.playback.used → length v.playback.entries ≡ place.entries
       → (start : Position) (r : Recording) → IsStartOf k.playback start
       → r.entries ≡ k.playback.entries

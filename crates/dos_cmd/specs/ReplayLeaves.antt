@@ -46,14 +46,14 @@ pub record Misfitted (scheme : Scheme) (log : Log) (images : List Image) (found 
 
 -- An output failed in the run.
 pub record CutReplay (scheme : Scheme) (log : Log) (images : List Image) (o : Outside) : Type 0
-    where
-  pub output : List ℕ
-  pub error : List ℕ
-  pub work : ℕ
-  pub replayed : ReplayedAhead scheme images log output error work
-  pub counted : Counted o work
-  pub grew : Grew o output error
-  pub stays : StaysAll o
+  where
+    pub output : List ℕ
+    pub error : List ℕ
+    pub work : ℕ
+    pub replayed : ReplayedAhead scheme images log output error work
+    pub counted : Counted o work
+    pub grew : Grew o output error
+    pub stays : StaysAll o
 
 -- Error failed in the report.
 pub record CutReplayReport (scheme : Scheme) (log : Log) (images : List Image) (o : Outside)

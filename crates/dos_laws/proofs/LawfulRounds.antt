@@ -12,7 +12,8 @@ use Rattle.dos_world.specs.declared.Post.{Post}
 use Rattle.dos_world.specs.declared.Scheme.{Scheme}
 use Rattle.flat_machine.specs.Step.{step}
 use Rattle.flat_machine.specs.Buffered.{Part, with_part}
-use Rattle.round_core.specs.Invariants.{IsInvariant, Keeps, LeavesServed, LeavesEnd, IsOf, PhaseKeeps}
+use Rattle.round_core.specs.Invariants.{IsInvariant, Keeps, LeavesServed, LeavesEnd, IsOf}
+use Rattle.round_core.specs.Invariants.{PhaseKeeps}
 use Rattle.flat_machine.specs.Rest.{serial_of}
 use Rattle.flat_machine.specs.Round.{RoundEnd, finished, stalled, phase_of, round_by, round_of}
 use Rattle.flat_machine.specs.Round.{went as went_on}

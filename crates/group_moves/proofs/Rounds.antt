@@ -113,7 +113,8 @@ module _ (limit begun_now : ℕ) where
           (with_budgets w (ready_threads w), before_parts (ready_threads w) (ready_threads w)))))
           begun_now
           ((if x then done (finished w) else
-          (if is_none_of (ready_threads w) then done (stalled w) else phases Ownership w (ready_threads w)))
+          (if is_none_of (ready_threads w) then done (stalled w) else phases Ownership w
+          (ready_threads w)))
           >>= ended)
       by_live true = nowhere limit answers begun_now made (w, at_end Done)
       by_live false = by_ready (is_none_of (ready_threads w))

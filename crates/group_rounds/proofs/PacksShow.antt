@@ -77,7 +77,8 @@ shared-within owners frame h = owned-within owners frame (ap is_free h)
 
 module _ (s : State) (sound : IsSound s) (ts : List ℕ) (live : AreLive s.table.threads ts)
     (new : Store) (packs : List Pack)
-    (h : Handing ts (map (pack_of s.table (empty_pack (length s.frames.pages))) ts) s.frames new packs
+    (h : Handing ts (map (pack_of s.table (empty_pack (length s.frames.pages))) ts) s.frames new
+    packs
     (length s.frames.pages)) where
   abbrev pub lives : (i t : ℕ) → slice_get ts i ≡ Some t → IsLiveThread s.table.threads t
   lives i t at = let r = place-of ts i t 0 at
@@ -120,7 +121,8 @@ module _ (s : State) (sound : IsSound s) (ts : List ℕ) (live : AreLive s.table
     below =
         let has = h.each i t p at here in
         subst (λ (b : Pack). HasBelow t s.frames (length s.frames.pages) b p)
-        (some-is (sym has.1 ∙ map-at (pack_of s.table (empty_pack (length s.frames.pages))) ts i t at))
+        (some-is (sym has.1 ∙ map-at (pack_of s.table (empty_pack (length s.frames.pages))) ts i t
+        at))
         has.2
 
     abbrev opened : Pack

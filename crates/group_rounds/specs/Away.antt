@@ -32,7 +32,8 @@ pub record WentOut (before : State) (a : Away) : Type 0 where
       → i ≡ j
   pub few : length a.starters ≤ 64
   pub hands : Handing a.starters
-      (map (pack_of before.table (empty_pack (length before.frames.pages))) a.starters) before.frames
+      (map (pack_of before.table (empty_pack (length before.frames.pages))) a.starters)
+      before.frames
       a.state.frames a.packs (length before.frames.pages)
   pub table : a.state.table ≡ before.table
   pub round : a.state.round ≡ before.round

@@ -48,6 +48,7 @@ HaveRunPhase scheme = LedBy (phase_of scheme)
 abbrev pub HaveRunAlone : (starters : List ℕ) → (old new : State) → Type 0
 HaveRunAlone starters = LedBy (λ w. all_alone w starters)
 
--- The parts of these threads, each taken of the world as it was, have been put in one after another.
+-- The parts of these threads, each taken of the world as it was, have been put in one after
+-- another.
 abbrev pub HavePutParts : (starters : List ℕ) → (old new : State) → Type 0
 HavePutParts starters = LedBy (λ w. all_put w w starters)

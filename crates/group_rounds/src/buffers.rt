@@ -1,5 +1,5 @@
-// The parallel phase in the buffered scheme: the packs run over memory as it is, with words of their
-// own, and what each has written is put in memory in thread order.
+// The parallel phase in the buffered scheme: the packs run over memory as it is, with words of
+// their own, and what each has written is put in memory in thread order.
 ghost use Rattle.std.specs.Prelude.{◌≡◌, ◌≤◌, ◌+◌, [], ℕ, List, All, IsSome, length};
 ghost use Rattle.std.specs.Vec.{vec_capacity};
 ghost use Rattle.dos_laws.specs.Taken.{IsPartIn};

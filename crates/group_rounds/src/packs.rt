@@ -11,7 +11,8 @@ ghost use Rattle.quantum_run.specs.Packs.{HoldsNo, empty_pack};
 ghost use Rattle.kernel_calls.specs.StateWorld.{IsSound};
 ghost use Rattle.group_rounds.specs.Parts.{work_between};
 ghost use Rattle.worker_pool.specs.Ran.{AllCanRun, AllRan, GrewBy, budgets_left};
-ghost use Rattle.group_rounds.specs.Phases.{AreLive, HavePutParts, HaveRunAlone, HaveRunPhase, ready_in};
+ghost use Rattle.group_rounds.specs.Phases.{AreLive, HavePutParts, HaveRunAlone, HaveRunPhase};
+ghost use Rattle.group_rounds.specs.Phases.{ready_in};
 ghost use Rattle.group_rounds.specs.Handing.{AreOnce, In, all_pages, HaveNoFrameTwice, AreOthers};
 ghost use Rattle.group_rounds.specs.Handing.{AreBegun};
 ghost use Rattle.group_rounds.specs.Handing.{AreSpare, GoesOut, Handing, PutBack, AreSet, Stays};
@@ -53,8 +54,8 @@ impl Model for Packs {
 
     ghost view = { λ p. record { frames = p.frames; scheme = p.scheme } };
 
-    ghost invariant = { λ p. ArePacks (blank_pack p.scheme p.frames) p.spare.items p.out.items (vec_capacity p.spare)
-        (vec_capacity p.out) × IsSome p.stand_in };
+    ghost invariant = { λ p. ArePacks (blank_pack p.scheme p.frames) p.spare.items p.out.items
+        (vec_capacity p.spare) (vec_capacity p.out) × IsSome p.stand_in };
 }
 
 // one pack of a scheme
@@ -88,8 +89,8 @@ fn reserve_stand_in(alloc: Global) -> Result<Shared, AllocError> {
 }
 
 impl Packs {
-    /// The packs of a kernel with `frames` frames, for phases of a scheme. All their memory is taken
-    /// here.
+    /// The packs of a kernel with `frames` frames, for phases of a scheme. All their memory is
+    /// taken here.
     pub(crate) fn reserve(alloc: Global, frames: u32, scheme: Scheme) -> Result<Packs, AllocError>
         ensures { IfOk result (λ p. p ≡ record { frames = frames; scheme = scheme }) }
     {

@@ -16,7 +16,7 @@ use Rattle.kernel_calls.specs.Plays.{Plays, PlaysOn, StopsIn, stopper}
 use Rattle.kernel_calls.specs.StateWorld.{IsSound, world_of}
 use Rattle.kernel_calls.specs.declared.state.RunStop.{RunStop}
 use Rattle.kernel_calls.specs.declared.state.State.{State}
-use Rattle.group_walk.specs.Places.{HasMove, at_part, at_rest, numbers_behind, phase_of, place_at}
+use Rattle.group_walk.specs.Places.{HasMove, at_part, at_rest, numbers_behind, phase_at, place_at}
 use Rattle.group_walk.specs.Plays.{moved, settled_move, world_of_scene}
 use Rattle.group_walk.specs.Walks.{AreThere, ComesTo, HasBegun, IsWalking, Walk, moment_in}
 use Rattle.group_walk.specs.Walks.{moment_of, round_at}
@@ -28,16 +28,16 @@ use Rattle.group_walk.proofs.Walking.{has_move, move_plays}
 -- ---- phases
 
 pub phase_there : (phase : Phase) (starters : List ℕ) (index : ℕ)
-    → phase_of (place_at phase starters index) ≡ phase
+    → phase_at (place_at phase starters index) ≡ phase
 phase_there Between starters index = refl
 phase_there Parallel starters index = go (drop index starters)
   where
-    go : (xs : List ℕ) → phase_of (at_part starters xs) ≡ Parallel
+    go : (xs : List ℕ) → phase_at (at_part starters xs) ≡ Parallel
     go [] = refl
     go (x ∷ xs) = refl
 phase_there Serial starters index = go (drop index starters)
   where
-    go : (xs : List ℕ) → phase_of (at_rest starters xs) ≡ Serial
+    go : (xs : List ℕ) → phase_at (at_rest starters xs) ≡ Serial
     go [] = refl
     go (x ∷ xs) = refl
 phase_there (Ended ending) starters index = refl

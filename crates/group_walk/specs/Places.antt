@@ -24,13 +24,13 @@ place_at Serial starters index = at_rest starters (drop index starters)
 place_at (Ended ending) starters index = at_end ending
 
 -- the phase of a place
-abbrev pub phase_of : Place → Phase
-phase_of between_rounds = Between
-phase_of (before_parts starters threads) = Parallel
-phase_of (within_part starters t ts) = Parallel
-phase_of (before_rests starters threads) = Serial
-phase_of (within_rest starters t ts) = Serial
-phase_of (at_end ending) = Ended ending
+abbrev pub phase_at : Place → Phase
+phase_at between_rounds = Between
+phase_at (before_parts starters threads) = Parallel
+phase_at (within_part starters t ts) = Parallel
+phase_at (before_rests starters threads) = Serial
+phase_at (within_rest starters t ts) = Serial
+phase_at (at_end ending) = Ended ending
 
 -- ---- who comes to the front
 

@@ -9,7 +9,7 @@ ghost use Rattle.group_moves.specs.Places.{between_rounds};
 ghost use Rattle.kernel_calls.specs.Plays.{Plays};
 ghost use Rattle.group_rounds.specs.Kernels.{IsBetweenRounds, kernel_world};
 ghost use Rattle.group_walk.specs.Exits.{LeavesNobody};
-ghost use Rattle.group_walk.specs.Places.{numbers_behind, phase_of};
+ghost use Rattle.group_walk.specs.Places.{numbers_behind, phase_at};
 ghost use Rattle.group_walk.specs.Walks.{HasWalked, kinds_named, moment_in, moment_of};
 ghost use Rattle.group_walk.specs.Walks.{world_there};
 ghost use Rattle.group_walk.specs.Plays.{moved, walked};
@@ -185,7 +185,7 @@ impl Walker {
 
     /// The phase in which the next move is made.
     pub fn phase(&self) -> Phase
-        ensures phase { phase_of self.now.place ≡ result }
+        ensures phase { phase_at self.now.place ≡ result }
         ensures between { result ≡ Phase.Between → self.now.place ≡ between_rounds }
     {
         self.phase

@@ -48,7 +48,8 @@ by_round scheme left w (gives end rest) =
     ++ (if is_followed end then trace_rounds scheme left (world_ended end) rest else [])
 
 by_first : (scheme : Scheme) (left : ℕ) (w : World) (answers : List Answer)
-    → trace_rounds scheme (suc left) w answers ≡ by_round scheme left w (over answers (round_of scheme w))
+    → trace_rounds scheme (suc left) w answers ≡ by_round scheme left w (over answers (round_of
+    scheme w))
 by_first scheme left w answers = go (over answers (round_of scheme w))
   where
     go : (x : Outcome FlatEnd) → elim x as (λ _. List Change) [
@@ -66,7 +67,8 @@ ended_in Done work w = refl
 ended_in Stalled work w = refl
 
 module _ (config : Config) (s s' : State) (b b' : BorderState) (so : RoundEnd) (work : ℕ)
-    (h : PlaysOn config.quantum (λ w. round_of config.scheme w) s b (λ w. done (end_in so work w)) s' b') (first : 1 ≤ s.round)
+    (h : PlaysOn config.quantum (λ w. round_of config.scheme w) s b (λ w. done (end_in so work w))
+    s' b') (first : 1 ≤ s.round)
     (o e : List ℕ) where
   -- the world in which it ended
   abbrev last : World
@@ -80,11 +82,14 @@ module _ (config : Config) (s s' : State) (b b' : BorderState) (so : RoundEnd) (
       ++ (if is_followed (end_in so work last) then trace_rounds config.scheme left
       (world_ended (end_in so work last)) rest else [])
   round_is left rest =
-      by_first config.scheme left (sent o e (world_of config.quantum s)) (map answer_of (exchanges_of h.crossings) ++ rest)
+      by_first config.scheme left (sent o e (world_of config.quantum s)) (map answer_of
+      (exchanges_of h.crossings) ++ rest)
       ∙ ap (by_round config.scheme left (sent o e (world_of config.quantum s)))
-      (goes-over_more (exchanges_of h.crossings) rest (round_of config.scheme (sent o e (world_of config.quantum s)))
+      (goes-over_more (exchanges_of h.crossings) rest (round_of config.scheme (sent o e (world_of
+      config.quantum s)))
       (done (end_in so work last))
-      (goes-exchanges o e h.crossings (round_of config.scheme (sent o e (world_of config.quantum s)))
+      (goes-exchanges o e h.crossings (round_of config.scheme (sent o e (world_of config.quantum
+      s)))
       (done (end_in so work last)) (h.goes o e)))
       ∙ ap (λ n. changes n s.frames.owners (world_ended (end_in so work last)).owners
       ++ (if is_followed (end_in so work last) then trace_rounds config.scheme left
@@ -111,7 +116,8 @@ not_followed (Some stalled_ending) ending work w is = refl
 
 -- Whatever is answered further, the trace from the old state is these changes, and then the trace
 -- from the state now. The lines grew by those changes' lines.
-pub record TracedSome (config : Config) (old : State) (before : Traced) (now : State) (after : Traced) :
+pub record TracedSome (config : Config) (old : State) (before : Traced) (now : State) (after :
+    Traced) :
     Type 0 where
   pub exchanges : List Exchange
   pub told_is : after.exchanges ≡ before.exchanges ++ exchanges
@@ -122,7 +128,8 @@ pub record TracedSome (config : Config) (old : State) (before : Traced) (now : S
   pub traces : (left : ℕ) (rest : List Answer)
       → trace_rounds config.scheme ((now.round - old.round) + left) (world_of config.quantum old)
       (map answer_of exchanges ++ rest)
-      ≡ so_far ++ trace_rounds config.scheme left (sent output error (world_of config.quantum now)) rest
+      ≡ so_far ++ trace_rounds config.scheme left (sent output error (world_of config.quantum now))
+      rest
 
 pub traced_none : (config : Config) (s : State) (t : Traced) → TracedSome config s t s t
 traced_none config s t = record {
@@ -181,7 +188,8 @@ module _ (config : Config) (old s s' : State) (b b' : BorderState) (before t t' 
 
   -- a round more, behind which another may follow
   pub traced_went : (work : ℕ)
-      (h : PlaysOn config.quantum (λ w. round_of config.scheme w) s b (λ w. done (end_in Went work w)) s' b')
+      (h : PlaysOn config.quantum (λ w. round_of config.scheme w) s b (λ w. done (end_in Went work
+      w)) s' b')
       → s'.round ≡ s.round + 1 → t'.exchanges ≡ t.exchanges ++ exchanges_of h.crossings
       → t'.lines
       ≡ grown t.lines (change_lines (changes s.round s.frames.owners s'.frames.owners))
@@ -206,7 +214,8 @@ module _ (config : Config) (old s s' : State) (b b' : BorderState) (before t t' 
 
   -- a round more, with which the run ends
   pub traced_last : (ended : Option Ending) (ending : Ending) (work : ℕ)
-      (h : PlaysOn config.quantum (λ w. round_of config.scheme w) s b (λ w. done (end_in (end_by ended) work w))
+      (h : PlaysOn config.quantum (λ w. round_of config.scheme w) s b (λ w. done (end_in (end_by
+      ended) work w))
       s' b')
       → ended ≡ Some ending → s.round ≤ config.rounds
       → t'.exchanges ≡ t.exchanges ++ exchanges_of h.crossings
@@ -247,7 +256,8 @@ module _ (config : Config) (old s s' : State) (b b' : BorderState) (before t t' 
 
   -- a round more, whose lines fail
   pub traced_fault : (so : RoundEnd) (work : ℕ)
-      (h : PlaysOn config.quantum (λ w. round_of config.scheme w) s b (λ w. done (end_in so work w)) s' b')
+      (h : PlaysOn config.quantum (λ w. round_of config.scheme w) s b (λ w. done (end_in so work
+      w)) s' b')
       → s.round ≤ config.rounds → t'.exchanges ≡ t.exchanges ++ exchanges_of h.crossings
       → GrewByFront t.lines t'.lines
       (change_lines (changes s.round s.frames.owners s'.frames.owners))
@@ -338,7 +348,8 @@ module _ (config : Config) (old s s' : State) (b b' : BorderState) (before t t' 
         ∙ ap (λ cs. grown before.lines (change_lines cs)) (sym whole);
   }
     where
-      whole : trace_rounds config.scheme (s'.round - old.round) w0 (map answer_of (some.exchanges ++ es))
+      whole : trace_rounds config.scheme (s'.round - old.round) w0 (map answer_of (some.exchanges
+          ++ es))
           ≡ some.so_far
       whole =
           ap (λ answers. trace_rounds config.scheme (s'.round - old.round) w0 answers)

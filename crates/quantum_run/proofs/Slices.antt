@@ -150,5 +150,6 @@ pub owning-leads : (p : Pack) (v : View) (later : Pack) → has_words p ≡ fals
     → has_words later ≡ false → LeadsToOwning p v later → LeadsTo p v later
 owning-leads p v later none still led = record {
   scheme = still ∙ sym none;
-  leads = λ after out. owning-out p v after none (out.scheme ∙ still) (led after (out.owning still));
+  leads = λ after out. owning-out p v after none (out.scheme ∙ still) (led after (out.owning
+      still));
 }

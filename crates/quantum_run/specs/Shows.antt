@@ -175,8 +175,8 @@ pub record Finished (p : Pack) (v : View) (after : Pack) : Type 0 where
 abbrev pub begun_pack : Pack → Pack
 begun_pack p = record p { registers = released p.registers }
 
--- The later pack, of the same scheme, is the thread run out from where the earlier one stands, until
--- it stops or its budget is 0.
+-- The later pack, of the same scheme, is the thread run out from where the earlier one stands,
+-- until it stops or its budget is 0.
 pub record RanOut (p : Pack) (v : View) (after : Pack) : Type 0 where
   pub scheme : has_words after ≡ has_words p
   pub owning : has_words p ≡ false → RanOutOwning p v after

@@ -23,7 +23,7 @@ use Rattle.group_moves.specs.Moments.{Moment, ending_at, first_moment, kind_at, 
 use Rattle.group_moves.specs.Moments.{settled_scene}
 use Rattle.group_moves.specs.Places.{Place, Scene, at_end, between_rounds}
 use Rattle.group_walk.specs.Exits.{IsDeserted, LeavesNobody}
-use Rattle.group_walk.specs.Places.{phase_of}
+use Rattle.group_walk.specs.Places.{phase_at}
 use Rattle.group_walk.specs.Walks.{Walk, kind_named, kinds_named, world_there}
 use Rattle.group_walk.specs.declared.walker.MoveKind.{MoveKind as kind_type}
 use Rattle.log_text.specs.LogText.{Log}
@@ -269,12 +269,12 @@ IsAhead p kind = (start : Position) → IsStartOf p start
 
 -- an ending of its own
 pub ended_there : (w : World) (place : Place) (ending : Ending)
-    → ended_in (phase_of place) ≡ Some ending → ending_at w place ≡ ending
+    → ended_in (phase_at place) ≡ Some ending → ending_at w place ≡ ending
 ended_there w (at_end other) ending is = cc
 ended_there w place ending is = absurd cc
 
 -- and else by who lives
-pub ended_by_threads : (w : World) (place : Place) → ended_in (phase_of place) ≡ None
+pub ended_by_threads : (w : World) (place : Place) → ended_in (phase_at place) ≡ None
     → ending_at w place ≡ ending_at w between_rounds
 ended_by_threads w (at_end other) is = absurd cc
 ended_by_threads w place is = refl

@@ -11,7 +11,7 @@ ghost use Rattle.group_moves.specs.Moments.{ending_at, kind_at};
 ghost use Rattle.group_moves.specs.Moves.{MoveKind as Move};
 ghost use Rattle.group_moves.specs.Places.{between_rounds};
 ghost use Rattle.group_rounds.specs.Kernels.{IsBetweenRounds};
-ghost use Rattle.group_walk.specs.Places.{phase_of};
+ghost use Rattle.group_walk.specs.Places.{phase_at};
 ghost use Rattle.group_walk.specs.Walks.{kinds_named};
 ghost use Rattle.recorded_walk.specs.Following.{log_entries};
 ghost use Rattle.recorded_walk.specs.Playbacks.{IsEndedAs, Heard, IsMisfitAt, IsOfSame, IsRefused};
@@ -176,7 +176,7 @@ impl Playback {
 
     /// The phase in which the next move is made.
     pub fn phase(&self) -> Phase
-        ensures { phase_of self.now.walk.place ≡ result }
+        ensures { phase_at self.now.walk.place ≡ result }
     {
         self.track.walker.phase()
     }

@@ -88,9 +88,11 @@ module _ (k : Held) (before : List Exchange) (fresh : before ≡ []) (p : Replay
       → TracedAhead images log l l' t t'
   ahead_lines t t' counted h = record {
     answered = p.answered;
-    counted = subst (λ (es : List Exchange). GrewBy t t' (group_work images (config_of Ownership log.header)
+    counted = subst (λ (es : List Exchange). GrewBy t t' (group_work images (config_of Ownership
+        log.header)
         (map answer_of es))) told_first
-        (counted_since k before told None None None None fresh images (config_of Ownership log.header) opened
+        (counted_since k before told None None None None fresh images (config_of Ownership
+        log.header) opened
         t t' counted);
     front = subst (λ (es : List Exchange). GrewByFront l l' (lines_over es)) told_first
         (lines_front k images (config_of Ownership log.header) opened before told l l' fresh h);

@@ -48,7 +48,8 @@ module _ (k k' : Held) (s p : ReplayState) (log : Log) (fresh : (replayer_state 
   abbrev Runs : Result Ending RunStop → Type 0
   Runs ran = RunsGroup k.config ran k.state (quiet_border s) k'.state (quiet_border p) has t t'
 
-  module _ (images : List Image) (opened : IsOpenedWith k images (config_of Ownership log.header)) where
+  module _ (images : List Image) (opened : IsOpenedWith k images (config_of Ownership log.header))
+      where
     pub traced_whole : (ending : Ending) → FitsLog log → Runs (Ok ending)
         → TracesBy (trace_lines k.config k.state) (traced (replayer_state s).told l)
         (traced (replayer_state p).told l')
@@ -93,7 +94,8 @@ module _ (k k' : Held) (s p : ReplayState) (log : Log) (fresh : (replayer_state 
         subst (λ (x : TraceStop). Traces k.config (Err x) k.state k'.state
         (traced (replayer_state s).told l) (traced (replayer_state p).told l')) is lines in
         let until = replayed_until k (replayer_state s).told p None None None None fresh log same
-        first Ownership images opened (stops.Misfit found) found s refl run.asks run.causes.shim kept t t'
+        first Ownership images opened (stops.Misfit found) found s refl run.asks run.causes.shim
+        kept t t'
         run.grew in
         record {
           output = until.0;

@@ -20,8 +20,8 @@ use shim_log::Replayer;
 use std::alloc::Global;
 use worker_pool::Workers;
 
-/// Runs a group that was opened in the ownership scheme by the answers of a log, and puts after each
-/// round a line for each frame whose owner has changed in it. The guests' bytes are dropped.
+/// Runs a group that was opened in the ownership scheme by the answers of a log, and puts after
+/// each round a line for each frame whose owner has changed in it. The guests' bytes are dropped.
 ///
 /// It stops where the log has an exchange of another question than the run asks, by that misfit,
 /// where a line fails, or for want of memory before the first round, and by nothing else.

@@ -11,8 +11,8 @@ use Rattle.debugger.proofs.Debugged.{stopped_so, was_debugged}
 use Rattle.debugger.proofs.serving.debug_group.Goals as goal
 
 -- what was given has as many frames as the log says
-room_by : (log : Log) (config : Config) (n : ℕ) → config ≡ config_of Ownership log.header → n ≤ config.frames
-    → n ≤ log.header.frames
+room_by : (log : Log) (config : Config) (n : ℕ) → config ≡ config_of Ownership log.header
+    → n ≤ config.frames → n ≤ log.header.frames
 room_by log config n is room = subst (λ (k : Config). n ≤ k.frames) is room
 
 pub returns-in-Ok-served-clause-done : goal.returns-in-Ok-served-clause-done

@@ -99,7 +99,8 @@ went-out c = record {
   few = c.gather.ensures.few;
   hands =
       let s = c.set_budgets.new.state in
-      subst (λ (ts : List ℕ). Handing ts (map (pack_of s.table (empty_pack (length s.frames.pages))) ts) s.frames
+      subst (λ (ts : List ℕ). Handing ts (map (pack_of s.table (empty_pack (length
+      s.frames.pages))) ts) s.frames
       c.hand_out.new.state.frames c.hand_out.new.packs.items (length s.frames.pages))
       c.as_slice-2.ensures.value c.hand_out.ensures.hands;
   table = c.hand_out.ensures.table;

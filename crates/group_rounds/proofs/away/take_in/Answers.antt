@@ -2,7 +2,8 @@ use Rattle.std.proofs.Common.{ℕ, ◌≤◌, ◌-◌, refl, ap, sym, ◌∙◌,
 use Rattle.worker_pool.specs.Ran.{budgets_left}
 use Rattle.quantum_run.specs.Packs.{empty_pack}
 use Rattle.group_rounds.specs.Away.{Away, HaveRun, IsParallelOf}
-use Rattle.group_rounds.proofs.AwayLaws.{away, are-away, are-apart, are-live, are-others, are-spare, packs-for}
+use Rattle.group_rounds.proofs.AwayLaws.{away, are-away, are-apart, are-live, are-others}
+use Rattle.group_rounds.proofs.AwayLaws.{are-spare, packs-for}
 use Rattle.group_rounds.proofs.AwayLaws.{between-again, is-parallel}
 use Rattle.group_rounds.proofs.away.take_in.Goals as goal
 

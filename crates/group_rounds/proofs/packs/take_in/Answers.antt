@@ -2,7 +2,8 @@ use Rattle.std.proofs.Common.{List, inl, refl, ◌∙◌, ap, sym, subst, [], �
 use Rattle.std.proofs.Common.{length, length-append, arith}
 use Rattle.quantum_run.specs.Shows.{Pack}
 use Rattle.group_rounds.specs.Handing.{In, emptied_pack}
-use Rattle.group_rounds.proofs.HandingLaws.{in-right, spare-more, packs-are, taking-more, take-apart}
+use Rattle.group_rounds.proofs.HandingLaws.{in-right, spare-more, packs-are, taking-more}
+use Rattle.group_rounds.proofs.HandingLaws.{take-apart}
 use Rattle.group_rounds.proofs.HandingLaws.{take-away, take-live}
 use Rattle.group_rounds.proofs.packs.take_in.Goals as goal
 

@@ -25,7 +25,8 @@ returns-in_ok-frames-in-Ok-clause-is c =
 pub returns-in_ok-frames-in-Ok-clause-fits : goal.returns-in_ok-frames-in-Ok-clause-fits
 returns-in_ok-frames-in-Ok-clause-fits c =
     recorded_fits c.args.digest c.args.used c.args.config c.args.state c.in-Ok.group
-    c.in-Ok.ensures c.requires.sound c.requires.config c.requires.scheme c.requires.frames c.requires.rounds
+    c.in-Ok.ensures c.requires.sound c.requires.config c.requires.scheme c.requires.frames
+    c.requires.rounds
     c.with_frames.result
     (recorded_is c.args.digest c.args.used c.args.config c.args.state c.in-Ok.group c.in-Ok.ensures
     c.requires.sound c.requires.config c.requires.scheme c.requires.frames c.requires.rounds
@@ -35,7 +36,8 @@ returns-in_ok-frames-in-Ok-clause-fits c =
 pub returns-in_ok-frames-in-Ok-clause-world : goal.returns-in_ok-frames-in-Ok-clause-world
 returns-in_ok-frames-in-Ok-clause-world c =
     recorded_world c.args.digest c.args.used c.args.config c.args.state c.in-Ok.group
-    c.in-Ok.ensures c.requires.sound c.requires.config c.requires.scheme c.requires.frames c.requires.rounds
+    c.in-Ok.ensures c.requires.sound c.requires.config c.requires.scheme c.requires.frames
+    c.requires.rounds
     c.with_frames.result
     (recorded_is c.args.digest c.args.used c.args.config c.args.state c.in-Ok.group c.in-Ok.ensures
     c.requires.sound c.requires.config c.requires.scheme c.requires.frames c.requires.rounds
@@ -45,7 +47,8 @@ returns-in_ok-frames-in-Ok-clause-world c =
 pub returns-in_ok-frames-in-Ok-clause-lawful : goal.returns-in_ok-frames-in-Ok-clause-lawful
 returns-in_ok-frames-in-Ok-clause-lawful c =
     recorded_lawful c.args.digest c.args.used c.args.config c.args.state c.in-Ok.group
-    c.in-Ok.ensures c.requires.sound c.requires.config c.requires.scheme c.requires.frames c.requires.rounds
+    c.in-Ok.ensures c.requires.sound c.requires.config c.requires.scheme c.requires.frames
+    c.requires.rounds
     c.with_frames.result
     (recorded_is c.args.digest c.args.used c.args.config c.args.state c.in-Ok.group c.in-Ok.ensures
     c.requires.sound c.requires.config c.requires.scheme c.requires.frames c.requires.rounds

@@ -19,10 +19,12 @@ returns-in-Ok g c =
     let run = c.in-Ok.ensures in
     record {
       ran = λ scheme images opened. replayed c.args.kernel.now
-          (replayer_state c.new-shim.result).told c.run_group.new.shim _ _ _ _ (nothing_told _ _ c.new-shim.ensures) c.args.log
+          (replayer_state c.new-shim.result).told c.run_group.new.shim _ _ _ _ (nothing_told _ _
+          c.new-shim.ensures) c.args.log
           (same_log _ _ _ c.new-shim.ensures run.follows)
           (from_first _ _ _ c.new-shim.ensures run.follows) scheme images opened
-          c.run_group.new.kernel c.in-Ok.ending _ _ run.runs.0 run.runs.1 run.runs.2 c.len-exchanges.ensures.fits
+          c.run_group.new.kernel c.in-Ok.ending _ _ run.runs.0 run.runs.1 run.runs.2
+          c.len-exchanges.ensures.fits
           (is_told _ _ _ run.told_end);
       misfit = λ found is. absurd (not_stopped _ _ is);
       cut = tt;
