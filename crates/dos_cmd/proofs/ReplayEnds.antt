@@ -40,9 +40,8 @@ use Rattle.dos_cmd.proofs.RunEnds.{then_rose}
 -- ---- it isn't opened
 
 pub not_opened : (scheme : Scheme) (log : Log) (images : List Image) (o : Outside) (f : Faults)
-    (why : Refusal)
-    (config : Config) → config ≡ config_of scheme log.header → IsNotOpened images config why → Says
-    o []
+    (why : Refusal) (config : Config) → config ≡ config_of scheme log.header
+    → IsNotOpened images config why → Says o []
     → LeavesTaken scheme log images o f why
 not_opened scheme log images o f why config is h says =
     not_opened_as images (config_of scheme log.header) why

@@ -29,7 +29,8 @@ pub record IsResumeOf (log : Log) (to : Text) (save : Outside) (words : List Tex
   pub same_log : resume.files name ≡ Some (logtext log)
   pub taken : log_verdict (logtext log) ≡ Ok log
 
--- A replay of this log with these images came to what it must: to its end, or to the log's misfit.
+-- A replay of this log with these images, by the scheme of ownership, came to what it must: to its
+-- end, or to the log's misfit.
 abbrev pub HasReplayed : Log → List Image → (status : ℕ) → Outside → Type 0
 HasReplayed log images status o =
     MustReplay (misfit images (config_of Ownership log.header) (exchanges log)) Ownership log

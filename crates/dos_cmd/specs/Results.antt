@@ -90,8 +90,8 @@ Did (Debug workers log names) taken status o =
 abbrev pub WasStopped : Request → Taken → ShimStop → (last : List ℕ) → Outside → Type 0
 WasStopped (Run quantum rounds frames workers scheme posts clock_from clock_step log names) taken
     stop last o =
-    StoppedRun (run_request_asked quantum rounds frames scheme posts clock_from clock_step log
-    names)
+    StoppedRun
+    (run_request_asked quantum rounds frames scheme posts clock_from clock_step log names)
     taken.images stop last o
 WasStopped (Gen number threads workers) taken stops.Memory last o =
     QuietlyStopped taken.images last o
@@ -105,8 +105,8 @@ WasStopped _ taken stop last o = ⊥
 abbrev pub Unwritten : Request → Taken → (last : List ℕ) → Outside → Type 0
 Unwritten (Run quantum rounds frames workers scheme posts clock_from clock_step log names) taken
     last o =
-    UnwrittenRun (run_request_asked quantum rounds frames scheme posts clock_from clock_step log
-    names)
+    UnwrittenRun
+    (run_request_asked quantum rounds frames scheme posts clock_from clock_step log names)
     taken.images last o
 Unwritten (Migrate log to) taken last o = UnwrittenText to last o
 Unwritten (Save workers log round to names) taken last o =
@@ -130,8 +130,8 @@ abbrev pub Cut : Request → Taken → Outside → Type 0
 Cut (Run quantum rounds frames workers scheme posts clock_from clock_step log names) taken o =
     CutRun (run_request_asked quantum rounds frames scheme posts clock_from clock_step log names)
     taken.images o
-    ⊎ CutRunReport (run_request_asked quantum rounds frames scheme posts clock_from clock_step log
-    names)
+    ⊎ CutRunReport
+    (run_request_asked quantum rounds frames scheme posts clock_from clock_step log names)
     taken.images o
 Cut (Replay workers scheme log names) taken o =
     OfLog taken.log (λ read. CutReplay scheme read taken.images o

@@ -1,4 +1,4 @@
--- What `save` leaves. This project's own rules.
+-- What `save` leaves. Its run is of the scheme of ownership. This project's own rules.
 use Rattle.std.specs.Prelude.{◌≡◌, ◌⊎◌, ◌<◌, ◌≤◌, ◌++◌, ℕ, Bool, List, [], Option, Ok}
 use Rattle.dos_io.specs.Outside.{GrewByFront, Rose, grown}
 use Rattle.dos_world.specs.declared.Ending.{Ending}

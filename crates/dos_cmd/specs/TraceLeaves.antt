@@ -1,5 +1,5 @@
--- What `trace` leaves: the lines of its trace on output, and nothing of what the guests print. This
--- project's own rules.
+-- What `trace` leaves: the lines of its trace on output, and nothing of what the guests print. Its
+-- run is of the scheme of ownership. This project's own rules.
 use Rattle.std.specs.Prelude.{◌≡◌, ◌⊎◌, ◌<◌, ◌≤◌, ℕ, List, []}
 use Rattle.dos_world.specs.declared.Misfit.{Misfit}
 use Rattle.dos_world.specs.declared.Scheme.TheVariants.{Ownership}

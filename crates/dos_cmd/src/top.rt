@@ -220,6 +220,10 @@ fn command<F: Files, H: Host, O: Sink, E: Sink, W: Workers>(
 ///   a debugger that speaks GDB's remote serial protocol: it reads `host` to the end of its input,
 ///   and puts what is answered to `out`. No worker is hired, and there is no report.
 ///
+/// A run and a replay go by the scheme S: `ownership`, by which all other commands go, or
+/// `buffered`. A log doesn't keep its run's; a replay by the other one is the run of that scheme by
+/// the same answers, as far as it asks for these.
+///
 /// For `run`, `replay`, `gen`, `trace`, `save` and `resume` `workers` are hired, as many as the
 /// words say: at most so many threads run a round's packs, the caller's among them. What the call
 /// does is the same with any number of them. Their tally grows by the instructions that the packs
