@@ -239,11 +239,24 @@ fn names<'a>(texts: &'a [&'a str]) -> &'a [&'a str] {
     rest
 }
 
-// The words that replay the log of a run of these words.
-fn replay_words<'a>(rt: &impl Abort, alloc: Global, texts: &'a [&'a str]) -> Vec<&'a str> {
+// The option of the scheme and its value, or nothing where the words have none.
+fn scheme_words<'a>(texts: &'a [&'a str]) -> &'a [&'a str] {
+    for place in 0..texts.len() {
+        if texts[place] == "--scheme" {
+            return texts.get(place..place + 2).unwrap_or(&[]);
+        }
+    }
+    &[]
+}
+
+/// The words that replay the log of a run of these words, by the same scheme.
+pub fn replay_words<'a>(rt: &impl Abort, alloc: Global, texts: &'a [&'a str]) -> Vec<&'a str> {
     let mut words = Vec::new(alloc);
     words
         .extend_from_slice(&["replay", "--log", LOG])
+        .expect(rt, "memory");
+    words
+        .extend_from_slice(scheme_words(texts))
         .expect(rt, "memory");
     words.extend_from_slice(names(texts)).expect(rt, "memory");
     words
@@ -275,7 +288,68 @@ pub fn check_replay<R: Threads + Sync + Abort>(
     drop(ran);
 }
 
-/// Runs with these words, which leaves what is wanted, and then replays the log.
+/// Both schemes, by their words.
+pub const SCHEMES: [&str; 2] = ["ownership", "buffered"];
+
+// How many workers a run has, where its words don't say it.
+const NUMBERS: [&str; 3] = ["1", "2", "32"];
+
+/// The words of a run with these options more.
+pub fn with_options<'a>(
+    rt: &impl Abort,
+    alloc: Global,
+    texts: &[&'a str],
+    options: &[&'a str],
+) -> Vec<&'a str> {
+    let mut words = Vec::new(alloc);
+    words.push("run").expect(rt, "memory");
+    words.extend_from_slice(options).expect(rt, "memory");
+    words
+        .extend_from_slice(texts.get(1..).unwrap_or(&[]))
+        .expect(rt, "memory");
+    words
+}
+
+// Runs with these words and options, which leaves what is wanted, and then replays the log.
+fn run_with<R: Threads + Sync + Abort>(
+    rt: &R,
+    alloc: Global,
+    files: &mut MemoryFiles,
+    texts: &[&str],
+    options: &[&str],
+    outside: &Outside<'_>,
+    wanted: Wanted<'_>,
+) {
+    let words = with_options(rt, alloc, texts, options);
+    let left = call_over(rt, alloc, files, &words, outside);
+    check_left(rt, &left, &words, wanted);
+    check_replay(rt, alloc, files, &words, left);
+    drop(words);
+}
+
+/// Runs with these words by a scheme, and unless they say with how many workers with 1, 2 and 32,
+/// which leaves what is wanted, and then replays each log.
+pub fn run_by<R: Threads + Sync + Abort>(
+    rt: &R,
+    alloc: Global,
+    files: &mut MemoryFiles,
+    texts: &[&str],
+    scheme: &str,
+    outside: &Outside<'_>,
+    wanted: Wanted<'_>,
+) {
+    if texts.contains(&"--workers") {
+        let options = ["--scheme", scheme];
+        run_with(rt, alloc, files, texts, &options, outside, wanted);
+        return;
+    }
+    for workers in NUMBERS {
+        let options = ["--scheme", scheme, "--workers", workers];
+        run_with(rt, alloc, files, texts, &options, outside, wanted);
+    }
+}
+
+/// The same by both schemes, which leave the same.
 pub fn run_twice_over<R: Threads + Sync + Abort>(
     rt: &R,
     alloc: Global,
@@ -284,9 +358,9 @@ pub fn run_twice_over<R: Threads + Sync + Abort>(
     outside: &Outside<'_>,
     wanted: Wanted<'_>,
 ) {
-    let left = call_over(rt, alloc, files, texts, outside);
-    check_left(rt, &left, texts, wanted);
-    check_replay(rt, alloc, files, texts, left);
+    for scheme in SCHEMES {
+        run_by(rt, alloc, files, texts, scheme, outside, wanted);
+    }
 }
 
 /// The same with nothing from outside.

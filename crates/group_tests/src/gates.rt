@@ -27,6 +27,19 @@ const TWO: [&str; 7] = [
     "endless",
 ];
 
+// The same in the scheme in which each thread has words of its own.
+const TWO_BUFFERED: [&str; 9] = [
+    "run",
+    "--scheme",
+    "buffered",
+    "--workers",
+    "2",
+    "--rounds",
+    "2",
+    "endless",
+    "endless",
+];
+
 const FOUR: [&str; 9] = [
     "run",
     "--workers",
@@ -171,9 +184,23 @@ fn two_at_once_spread(rt: HostRuntime) {
 }
 
 #[test]
+fn two_at_once_spread_buffered(rt: HostRuntime) {
+    let gate = Holding::until(2);
+    spread(&rt, rt.alloc(), &gate, &TWO_BUFFERED, TWO_LIVE);
+    check_gate(&rt, &gate, 4, 3);
+}
+
+#[test]
 fn two_at_once_boarded(rt: HostRuntime) {
     let gate = Holding::until(2);
     boarded(&rt, rt.alloc(), &gate, &TWO, TWO_LIVE);
+    check_gate(&rt, &gate, 4, 3);
+}
+
+#[test]
+fn two_at_once_boarded_buffered(rt: HostRuntime) {
+    let gate = Holding::until(2);
+    boarded(&rt, rt.alloc(), &gate, &TWO_BUFFERED, TWO_LIVE);
     check_gate(&rt, &gate, 4, 3);
 }
 
@@ -185,8 +212,20 @@ fn two_at_once_stealing(rt: HostRuntime) {
 }
 
 #[test]
+fn two_at_once_stealing_buffered(rt: HostRuntime) {
+    let gate = Holding::until(2);
+    stealing(&rt, rt.alloc(), &gate, &TWO_BUFFERED, TWO_LIVE);
+    check_gate(&rt, &gate, 4, 3);
+}
+
+#[test]
 fn two_at_once_staying(rt: HostRuntime) {
     check_staying(&rt, rt.alloc(), &TWO, TWO_LIVE, 2, [2, 4], 3);
+}
+
+#[test]
+fn two_at_once_staying_buffered(rt: HostRuntime) {
+    check_staying(&rt, rt.alloc(), &TWO_BUFFERED, TWO_LIVE, 2, [2, 4], 3);
 }
 
 // Each thread has a half: 0 is held until 2 has begun.

@@ -1,7 +1,7 @@
 //! Guests, and the files of their images, made by the assembler.
 use dos_io::MemoryFiles;
 use rv_asm::Builder;
-use rv_isa::{AmoOp, BranchOp, ImmOp, Instr, LoadOp, StoreOp};
+use rv_isa::{AmoOp, BranchOp, ImmOp, Instr, LoadOp, RegOp, StoreOp};
 use std::alloc::Global;
 use std::process::Abort;
 
@@ -86,6 +86,18 @@ macro_rules! li {
             rd: $rd,
             rs1: ZERO,
             imm: $imm,
+        }
+    };
+}
+
+/// `add rd, rs1, rs2`.
+macro_rules! add {
+    ($rd:expr, $rs1:expr, $rs2:expr) => {
+        Instr::Reg {
+            op: RegOp::Add,
+            rd: $rd,
+            rs1: $rs1,
+            rs2: $rs2,
         }
     };
 }
@@ -440,6 +452,126 @@ pub const READS: [Instr; 6] = [
     li!(A0, 0),
     Instr::Ecall,
     j!(-8),
+];
+
+/// Two threads run in round 2. Each stores `1` to a word of its own, which is `0` at first, and then
+/// loads the other's and prints it.
+pub const FLAGS: [Instr; 23] = [
+    li!(A7, THREAD_NEW),
+    lui!(A0, CODE),
+    addi!(A0, A0, 28),
+    li!(A2, 4),
+    Instr::Ecall,
+    li!(A7, YIELD),
+    Instr::Ecall,
+    // from here on both, with the place of their word in a0: 0 and 4
+    lui!(S0, CODE),
+    addi!(S0, S0, TEXT_OFFSET),
+    add!(TEMP0, S0, A0),
+    li!(TEMP1, 0x31),
+    sw!(TEMP1, 0, TEMP0),
+    Instr::Imm {
+        op: ImmOp::Xori,
+        rd: A0,
+        rs1: A0,
+        imm: 4,
+    },
+    add!(A1, S0, A0),
+    lw!(TEMP1, A1),
+    addi!(A1, A1, 8),
+    sw!(TEMP1, 0, A1),
+    li!(A7, WRITE),
+    li!(A0, 1),
+    li!(A2, 1),
+    Instr::Ecall,
+    li!(A7, THREAD_EXIT),
+    Instr::Ecall,
+];
+
+/// The first thread stores to a word in round 2, and is gone. The second loads the word until it
+/// isn't 0, and is gone.
+pub const WAITS_FOR_A_FLAG: [Instr; 17] = [
+    li!(A7, THREAD_NEW),
+    lui!(A0, CODE),
+    addi!(A0, A0, 44),
+    Instr::Ecall,
+    lui!(S0, CODE),
+    addi!(S0, S0, TEXT_OFFSET),
+    li!(A7, YIELD),
+    Instr::Ecall,
+    sw!(A7, 0, S0),
+    li!(A7, THREAD_EXIT),
+    Instr::Ecall,
+    // the second thread
+    lui!(S0, CODE),
+    addi!(S0, S0, TEXT_OFFSET),
+    lw!(TEMP0, S0),
+    branch!(Beq, TEMP0, -4),
+    li!(A7, THREAD_EXIT),
+    Instr::Ecall,
+];
+
+/// Each of eight threads adds 1 to a byte of its own, 20 times, and prints it. The bytes lie in two
+/// words.
+pub const EIGHT_ADD: [Instr; 26] = [
+    li!(S1, 7),
+    li!(A7, THREAD_NEW),
+    lui!(A0, CODE),
+    addi!(A0, A0, 40),
+    addi!(A2, S1, 0),
+    Instr::Ecall,
+    addi!(S1, S1, -1),
+    branch!(Bne, S1, -20),
+    li!(A7, YIELD),
+    Instr::Ecall,
+    // from here on all, with the place of their byte in a0
+    lui!(S0, CODE),
+    addi!(S0, S0, TEXT_OFFSET),
+    add!(S0, S0, A0),
+    li!(S1, 20),
+    Instr::Load {
+        op: LoadOp::Lbu,
+        rd: TEMP0,
+        rs1: S0,
+        offset: 0,
+    },
+    addi!(TEMP0, TEMP0, 1),
+    Instr::Store {
+        op: StoreOp::Sb,
+        rs1: S0,
+        rs2: TEMP0,
+        offset: 0,
+    },
+    addi!(S1, S1, -1),
+    branch!(Bne, S1, -16),
+    li!(A7, WRITE),
+    li!(A0, 1),
+    addi!(A1, S0, 0),
+    li!(A2, 1),
+    Instr::Ecall,
+    li!(A7, THREAD_EXIT),
+    Instr::Ecall,
+];
+
+/// Stores to 1500 words one behind the other, and ends with the low byte of the sum of what it then
+/// loads of them, up to the last.
+pub const MANY_WORDS: [Instr; 16] = [
+    lui!(S0, 0x1_1000),
+    addi!(S1, S0, 0),
+    li!(TEMP0, 1500),
+    sw!(TEMP0, 0, S0),
+    addi!(S0, S0, 4),
+    addi!(TEMP0, TEMP0, -1),
+    branch!(Bne, TEMP0, -12),
+    li!(TEMP0, 1500),
+    lw!(TEMP1, S1),
+    add!(A1, A1, TEMP1),
+    addi!(S1, S1, 4),
+    addi!(TEMP0, TEMP0, -1),
+    branch!(Bne, TEMP0, -16),
+    addi!(A0, A1, 0),
+    li!(A7, PROCESS_EXIT),
+    Instr::Ecall,
 ];
 
 /// Two instructions that put a number into a register.

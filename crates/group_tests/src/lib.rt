@@ -45,6 +45,8 @@ mod saved_files;
 #[cfg(test)]
 mod saves;
 #[cfg(test)]
+mod schemes;
+#[cfg(test)]
 mod traces;
 #[cfg(test)]
 mod workers;
