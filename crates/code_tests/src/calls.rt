@@ -10,7 +10,9 @@ use worker_pool::{OpenGate, Stealing, Tally};
 
 const QUANTA: [&str; 6] = ["16", "17", "23", "64", "1000", "65536"];
 
-const REPLAY: [&str; 4] = ["replay", "--log", "log", "a"];
+const OWNERSHIP: &str = "ownership";
+
+const BUFFERED: &str = "buffered";
 
 // What a call left, and by how much the tally grew.
 #[derive(Drop)]
@@ -77,6 +79,7 @@ fn run<R: Threads + Sync + Abort>(
     alloc: Global,
     files: &mut MemoryFiles,
     guest: &Guest,
+    scheme: &str,
     quantum: &str,
     workers: &str,
 ) -> Left {
@@ -84,6 +87,8 @@ fn run<R: Threads + Sync + Abort>(
         "run",
         "--log",
         "log",
+        "--scheme",
+        scheme,
         "--frames",
         "64",
         "--quantum",
@@ -95,23 +100,34 @@ fn run<R: Threads + Sync + Abort>(
     call(rt, alloc, files, guest, &words)
 }
 
+fn replay<R: Threads + Sync + Abort>(
+    rt: &R,
+    alloc: Global,
+    files: &mut MemoryFiles,
+    guest: &Guest,
+    scheme: &str,
+) -> Left {
+    let words = ["replay", "--log", "log", "--scheme", scheme, "a"];
+    call(rt, alloc, files, guest, &words)
+}
+
 // Whether the report has these lines, and then that the group is done.
 fn is_report(err: &[u8], lines: &str) -> bool {
     let rest = err.strip_prefix(lines.as_bytes()).unwrap_or(b"");
     rest.starts_with(b"rounds ") && rest.ends_with(b" done\n")
 }
 
-fn check_left(rt: &impl Abort, left: &Left, guest: &Guest, quantum: &str) {
+fn check_left(rt: &impl Abort, left: &Left, guest: &Guest, case: (&str, &str)) {
     let reported = is_report(left.err.bytes(), guest.report);
-    same_at(rt, (left.status, reported), (0, true), quantum);
-    same_at(rt, left.out.bytes(), guest.out, quantum);
+    same_at(rt, (left.status, reported), (0, true), case);
+    same_at(rt, left.out.bytes(), guest.out, case);
 }
 
-fn check_same(rt: &impl Abort, left: &Left, wanted: &Left, quantum: &str) {
+fn check_same(rt: &impl Abort, left: &Left, wanted: &Left, case: (&str, &str)) {
     let seen = (left.status, left.work);
-    same_at(rt, seen, (wanted.status, wanted.work), quantum);
-    same_at(rt, left.out.bytes(), wanted.out.bytes(), quantum);
-    same_at(rt, left.err.bytes(), wanted.err.bytes(), quantum);
+    same_at(rt, seen, (wanted.status, wanted.work), case);
+    same_at(rt, left.out.bytes(), wanted.out.bytes(), case);
+    same_at(rt, left.err.bytes(), wanted.err.bytes(), case);
 }
 
 // With one worker it leaves what is wanted, and 32 workers and a replay leave the same.
@@ -120,24 +136,39 @@ fn check_at<R: Threads + Sync + Abort>(
     alloc: Global,
     files: &mut MemoryFiles,
     guest: &Guest,
+    scheme: &str,
     quantum: &str,
 ) {
-    let one = run(rt, alloc, files, guest, quantum, "1");
-    check_left(rt, &one, guest, quantum);
-    let many = run(rt, alloc, files, guest, quantum, "32");
-    check_same(rt, &many, &one, quantum);
-    let again = call(rt, alloc, files, guest, &REPLAY);
-    check_same(rt, &again, &one, quantum);
+    let case = (scheme, quantum);
+    let one = run(rt, alloc, files, guest, scheme, quantum, "1");
+    check_left(rt, &one, guest, case);
+    let many = run(rt, alloc, files, guest, scheme, quantum, "32");
+    check_same(rt, &many, &one, case);
+    let again = replay(rt, alloc, files, guest, scheme);
+    check_same(rt, &again, &one, case);
     drop(one);
     drop(many);
     drop(again);
 }
 
-/// The guest leaves what is wanted at each quantum, with 1 and with 32 workers, and is replayed.
-pub fn check_guest<R: Threads + Sync + Abort>(rt: &R, alloc: Global, guest: &Guest) {
+// The guest leaves what is wanted by a scheme at each quantum, with 1 and with 32 workers, and is
+// replayed.
+fn check_by<R: Threads + Sync + Abort>(rt: &R, alloc: Global, guest: &Guest, scheme: &str) {
     let mut files = files_of(rt, alloc, guest);
     for quantum in &QUANTA {
-        check_at(rt, alloc, &mut files, guest, quantum);
+        check_at(rt, alloc, &mut files, guest, scheme, quantum);
     }
     drop(files);
+}
+
+/// The guest leaves what is wanted at each quantum, with 1 and with 32 workers, and is replayed.
+pub fn check_guest<R: Threads + Sync + Abort>(rt: &R, alloc: Global, guest: &Guest) {
+    check_by(rt, alloc, guest, OWNERSHIP);
+}
+
+/// The same by both schemes, which leave the same of a guest of one thread: what it has stored in
+/// this round it fetches from its own words.
+pub fn check_in_both<R: Threads + Sync + Abort>(rt: &R, alloc: Global, guest: &Guest) {
+    check_by(rt, alloc, guest, OWNERSHIP);
+    check_by(rt, alloc, guest, BUFFERED);
 }
