@@ -454,8 +454,8 @@ pub const READS: [Instr; 6] = [
     j!(-8),
 ];
 
-/// Two threads run in round 2. Each stores `1` to a word of its own, which is `0` at first, and then
-/// loads the other's and prints it.
+/// Two threads run in round 2. Each stores `1` to a word of its own, which is `0` at first, and
+/// then loads the other's and prints it.
 pub const FLAGS: [Instr; 23] = [
     li!(A7, THREAD_NEW),
     lui!(A0, CODE),

@@ -56,8 +56,8 @@ const ROWS: [Row; 6] = [
         ownership: (0, "AHGFEDCB", DONE_IN_2),
         buffered: (0, "AHGFEDCB", DONE_IN_2),
     },
-    // The threads 2 and 3 begin in round 2, 4 to 6 in round 3, and 1, 7 and 8 in round 4; each prints
-    // by its 109th instruction, which is in its seventh part.
+    // The threads 2 and 3 begin in round 2, 4 to 6 in round 3, and 1, 7 and 8 in round 4; each
+    // prints by its 109th instruction, which is in its seventh part.
     Row {
         words: &["run", "--quantum", "16", "a"],
         code: &EIGHT_ADD,
