@@ -20,7 +20,7 @@ use Rattle.group_rounds.proofs.PacksShow.{can-run}
 use Rattle.group_rounds.proofs.PacksBack.{others, pages-apart, pages-away, threads-live}
 use Rattle.group_rounds.proofs.PacksBack.{spare-again, all-runs, sound-again, count-again}
 use Rattle.group_rounds.proofs.PacksWork.{work-is}
-use Rattle.group_rounds.proofs.RoundLaws.{parallel_is}
+use Rattle.group_rounds.proofs.RoundLaws.{ready_still}
 use Rattle.group_rounds.proofs.HandingLaws.{beside}
 
 -- a kernel that is handed out, by its parts
@@ -126,9 +126,10 @@ is-parallel k a ran out have s2 put set round pipes futexes =
     futexes2 in
     let halfway : (o e : List ℕ) → parallel (sent o e (world_of q out.before))
     ≡ sent o e (world_of q s2) =
-    parallel_is q k.state out.before s2 ts refl out.begins
-    (λ r o e. subst (λ us. all_alone (sent o e (world_of r out.before)) us
-    ≡ sent o e (world_of r s2)) out.starters (runs r o e)) in
+    λ o e. ap (all_alone (sent o e (world_of q out.before)))
+    (sym (ready_still q k.state out.before ts refl out.begins))
+    ∙ subst (λ us. all_alone (sent o e (world_of q out.before)) us
+    ≡ sent o e (world_of q s2)) out.starters (runs q o e) in
     record {
       runs = λ o e. ap parallel (out.begins o e) ∙ halfway o e;
       work_is = λ o e.

@@ -10,7 +10,7 @@ pub loop-place-preserved : goal.loop-place-preserved
 loop-place-preserved c =
     let s = c.loop-place.state in
     let s' = c.put_part.new.state in
-    let p : Pack = c.index.result.now in
+    let p : Pack = c.index-packs-place.result.now in
     let puts = c.put_part.ensures.puts in
     let inv = c.loop-place.invariant in
     let ps = c.args.packs.now in

@@ -1,5 +1,5 @@
 use Rattle.std.proofs.Common.{◌≡◌, ◌++◌, ◌∷◌, [], ◌∙◌, ap, refl, sym, subst, List, Some, None, inl}
-use Rattle.std.proofs.Common.{length, length-append, arith}
+use Rattle.std.proofs.Common.{length, length-append}
 use Rattle.dos_world.specs.World.{Thread}
 use Rattle.quantum_run.specs.Shows.{Pack}
 use Rattle.quantum_run.specs.Packs.{with_thread_of}

@@ -5,28 +5,23 @@ use Rattle.quantum_run.specs.Shows.{Pack}
 use Rattle.group_rounds.specs.Handing.{Handing, pack_of}
 use Rattle.group_rounds.proofs.PacksShow.{pack_of-begun}
 use Rattle.group_rounds.proofs.packs.hand_out.Goals as goal
-use Rattle.group_rounds.proofs.packs.hand_out.Goals.{After-fill_each}
 
 pub fill_each-requires-clause-empty : goal.fill_each-requires-clause-empty
 fill_each-requires-clause-empty c =
     λ p here. ap (λ (q : Pack). q.pages) (c.requires.spare p here)
 
--- the packs before their pages come
-filled : (c : After-fill_each) → c.fill_each.new.packs.items
-    ≡ map (pack_of c.args.state.now.table (empty_pack (length c.args.state.now.frames.pages)))
-    c.args.starters.now
-filled c =
-    c.fill_each.ensures.fills (empty_pack (length c.args.state.now.frames.pages)) c.requires.spare
-
 pub hand_pages-requires-clause-begun : goal.hand_pages-requires-clause-begun
 hand_pages-requires-clause-begun c = λ i p at.
     pack_of-begun c.args.state.now.table (length c.args.state.now.frames.pages)
     c.args.starters.now i p
-    (ap (λ ps. slice_get ps i) (sym (filled c)) ∙ at)
+    (ap (λ ps. slice_get ps i) (sym
+    (c.fill_each.ensures.fills (empty_pack (length c.args.state.now.frames.pages))
+    c.requires.spare)) ∙ at)
 
 pub hand_pages-requires-clause-level : goal.hand_pages-requires-clause-level
 hand_pages-requires-clause-level c =
-    ap length (filled c) ∙ length-map c.args.starters.now
+    ap length (c.fill_each.ensures.fills (empty_pack (length c.args.state.now.frames.pages))
+    c.requires.spare) ∙ length-map c.args.starters.now
     (pack_of c.args.state.now.table (empty_pack (length c.args.state.now.frames.pages)))
 
 pub hand_pages-requires-clause-apart : goal.hand_pages-requires-clause-apart
@@ -36,7 +31,9 @@ pub returns-clause-hands : goal.returns-clause-hands
 returns-clause-hands c =
     subst (λ (begun : List Pack). Handing c.args.starters.now begun c.args.state.now.frames
     c.hand_pages.new.frames c.hand_pages.new.packs.items
-    (length c.args.state.now.frames.pages)) (filled c) c.hand_pages.ensures.hands
+    (length c.args.state.now.frames.pages))
+    (c.fill_each.ensures.fills (empty_pack (length c.args.state.now.frames.pages))
+    c.requires.spare) c.hand_pages.ensures.hands
 
 pub returns-clause-spare : goal.returns-clause-spare
 returns-clause-spare c =
