@@ -251,7 +251,7 @@ pub replay_leaves : (status : ℕ) (o : Outside) → MustCome replay_words statu
     → status ≢ 9 → LeftBehind status o × FilesStay o
 replay_leaves status o must l a no_fault no_sink no_memory =
     let fits = fits_have_none 0 (exchanges log) (group images config) ran.fits in
-    let did = subst (λ m. MustReplay m log replay_taken status o) fits
+    let did = subst (λ m. MustReplay m Ownership log replay_taken status o) fits
     (must replay_asked replay_taken replay_asks (replay_takes o.files l a) no_fault no_sink
     no_memory) in
     let same = bare_once images config (exchanges log) (exchanges log) did.seen seen (refl, tt)
