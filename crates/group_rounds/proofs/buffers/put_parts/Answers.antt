@@ -1,4 +1,4 @@
-use Rattle.std.proofs.Common.{◌+◌, ◌∙◌, ap, drop, drop_of_length-le}
+use Rattle.std.proofs.Common.{◌+◌, ◌∙◌, ◌∷◌, ap, sym, drop, drop_of_length-le}
 use Rattle.quantum_run.specs.Shows.{Pack}
 use Rattle.kernel_calls.specs.StateWorld.{sent, world_of}
 use Rattle.kernel_calls.proofs.Staying.{stays-then}
@@ -10,7 +10,7 @@ pub loop-place-preserved : goal.loop-place-preserved
 loop-place-preserved c =
     let s = c.loop-place.state in
     let s' = c.put_part.new.state in
-    let p : Pack = c.index-packs-place.result.now in
+    let p : Pack = c.index-packs-place.result in
     let puts = c.put_part.ensures.puts in
     let inv = c.loop-place.invariant in
     let ps = c.args.packs.now in
@@ -18,6 +18,8 @@ loop-place-preserved c =
     record {
       puts = λ q o e. inv.puts q o e
           ∙ ap (parts_put (sent o e (world_of q s))) (drop-pack ps i p c.loop-place-test.true)
+          ∙ ap (λ (first : Pack). parts_put (sent o e (world_of q s)) (first ∷ drop (i + 1) ps))
+          (sym c.index-packs-place.is)
           ∙ ap (λ w. parts_put w (drop (i + 1) ps)) (puts q o e);
       sound = c.put_part.ensures.sound;
       round = stays-then c.put_part.ensures.round inv.round;
