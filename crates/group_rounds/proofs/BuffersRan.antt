@@ -19,15 +19,15 @@ use Rattle.flat_machine.specs.Buffered.{with_part}
 use Rattle.flat_machine.proofs.Threads.{seen-changed}
 use Rattle.page_store.specs.Store.{whole}
 use Rattle.page_store.proofs.Counts.{owned-within}
-use Rattle.proc_table.specs.Tables.{thread_in, IsLiveThread}
+use Rattle.proc_table.specs.Tables.{IsLiveThread}
 use Rattle.quantum_run.specs.Packs.{empty_writing, with_thread_of}
-use Rattle.quantum_run.specs.Shows.{Pack, View, CanRun, CanRunWriting, Sees, has_words, pack_left}
+use Rattle.quantum_run.specs.Shows.{Pack, View, CanRun, CanRunWriting, Sees, pack_left}
 use Rattle.quantum_run.proofs.Writing.{joined-whole}
 use Rattle.worker_pool.specs.Ran.{AllCanRun, AllRan, HasRun, budgets_left}
 use Rattle.kernel_calls.specs.StateWorld.{IsSound, sent, world_of}
 use Rattle.kernel_calls.specs.declared.state.State.{State}
 use Rattle.group_rounds.specs.Buffers.{CanBePut, part_in, parts_put}
-use Rattle.group_rounds.specs.Handing.{AreOnce, AreSpare, In, emptied_pack, pack_of, view_of}
+use Rattle.group_rounds.specs.Handing.{AreOnce, AreSpare, emptied_pack, pack_of, view_of}
 use Rattle.group_rounds.specs.Parts.{KeepsCount, budget_in, work_between}
 use Rattle.group_rounds.specs.Phases.{AreLive}
 use Rattle.group_rounds.proofs.HandingLaws.{beside}

@@ -4,21 +4,18 @@ use Rattle.std.proofs.Common.{ℕ, zero, suc, ◌-◌, ◌%◌, ◌≡◌, refl,
 use Rattle.std.proofs.Common.{false, cond, List, [], ◌∷◌, ◌++◌, length, Option}
 use Rattle.std.proofs.Common.{Some, None, option_map}
 use Rattle.std.specs.Prelude.{◌==◌, ⊤, filter, map, slice_get}
-use Rattle.std.specs.List.{list_any}
-use Rattle.dos_world.specs.Errors.{enosys}
 use Rattle.dos_world.specs.Numbered.{changed}
 use Rattle.dos_world.specs.World.{World, Thread, flat, thread_at, get}
 use Rattle.dos_world.specs.World.{first_thread, threads_of, parent_of}
 use Rattle.dos_world.specs.World.{with_thread, without_thread}
-use Rattle.dos_world.specs.World.{registers_by}
 use Rattle.dos_world.specs.Counts.{owner_if_mapped}
-use Rattle.dos_world.specs.Kernel.{answered, minus, pending_with, tidied, orphaned}
+use Rattle.dos_world.specs.Kernel.{pending_with, tidied, orphaned}
 use Rattle.dos_world.specs.Kernel.{ended_by, unless_of, is_none_of_these, process_ended}
 use Rattle.dos_world.specs.Kernel.{thread_ended}
 use Rattle.dos_world.specs.Play.{Play, Answer, done, ask, asks, over, gives}
 use Rattle.dos_world.specs.Services.{service, service_for, service_of}
-use Rattle.dos_world.specs.Calls.{Call, Service, Served, went, waits, yields, gone, charged}
-use Rattle.dos_world.specs.Calls.{call_of, refuses}
+use Rattle.dos_world.specs.Calls.{Call, Served, went, waits, yields, gone, charged}
+use Rattle.dos_world.specs.Calls.{call_of}
 use Rattle.dos_world.specs.declared.Question.{Question}
 use Rattle.dos_io.specs.declared.exchange.Exchange.{Exchange}
 use Rattle.dos_io.specs.declared.exchange.Exchange.TheVariants.{Signals, Input as input_exchange}

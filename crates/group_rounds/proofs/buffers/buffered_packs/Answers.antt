@@ -1,4 +1,4 @@
-use Rattle.std.proofs.Common.{ℕ, List, All, ◌≡◌, ◌∙◌, ap, sym, subst, length, map, arith}
+use Rattle.std.proofs.Common.{ℕ, List, All, ◌≡◌, ◌∙◌, ap, sym, subst, arith}
 use Rattle.quantum_run.specs.Packs.{empty_writing}
 use Rattle.quantum_run.specs.Shows.{Pack}
 use Rattle.kernel_calls.specs.StateWorld.{IsSound, StaysInRound, sent, world_of}

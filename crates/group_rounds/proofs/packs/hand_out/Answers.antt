@@ -1,4 +1,4 @@
-use Rattle.std.proofs.Common.{◌≡◌, ◌∙◌, List, refl, ap, sym, subst, length, map, slice_get}
+use Rattle.std.proofs.Common.{◌∙◌, List, refl, ap, sym, subst, length, slice_get}
 use Rattle.std.proofs.lemmas.List.{length-map}
 use Rattle.quantum_run.specs.Packs.{empty_pack}
 use Rattle.quantum_run.specs.Shows.{Pack}
