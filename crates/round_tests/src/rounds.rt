@@ -1,5 +1,6 @@
 ghost use Rattle.std.specs.Prelude.{◌≡◌, ◌≤◌, false, is_err, length, IfOk, OnOk};
 ghost use Rattle.dos_world.specs.Lawful.{IsConfig};
+ghost use Rattle.dos_world.specs.declared.Scheme.TheVariants.{Ownership};
 ghost use Rattle.dos_io.specs.Quiet.{shown_by};
 ghost use Rattle.dos_io.specs.Shims.{HasNoEnd};
 ghost use Rattle.group_rounds.specs.Kernels.{IsFresh};
@@ -111,7 +112,8 @@ fn serial_over<S: Shim, O: Sink, E: Sink>(
 
 // The phase in its three steps, and how many instructions it ran.
 fn in_steps<R: Threads + Sync>(kernel: Kernel) -> (Kernel, u64)
-    requires { kernel.failed ≡ false }
+    requires running { kernel.failed ≡ false }
+    requires scheme { kernel.config.scheme ≡ Ownership }
 {
     let mut tally = Tally::new();
     let mut workers: Serial<'_, R> = Serial::new(&mut tally);
@@ -123,7 +125,8 @@ fn in_steps<R: Threads + Sync>(kernel: Kernel) -> (Kernel, u64)
 
 // The phase by itself, and how many instructions it ran.
 fn at_once<R: Threads + Sync>(kernel: Kernel) -> (Kernel, u64)
-    requires { kernel.failed ≡ false }
+    requires running { kernel.failed ≡ false }
+    requires scheme { kernel.config.scheme ≡ Ownership }
 {
     let mut tally = Tally::new();
     let mut workers: Serial<'_, R> = Serial::new(&mut tally);

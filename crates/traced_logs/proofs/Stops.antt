@@ -49,79 +49,79 @@ module _ (k k' : Held) (s p : ReplayState) (log : Log) (fresh : (replayer_state 
   Runs ran = RunsGroup k.config ran k.state (quiet_border s) k'.state (quiet_border p) has t t'
 
   module _ (images : List Image) (opened : IsOpenedWith k images (config_of Ownership log.header))
-      where
-    pub traced_whole : (ending : Ending) → FitsLog log → Runs (Ok ending)
-        → TracesBy (trace_lines k.config k.state) (traced (replayer_state s).told l)
-        (traced (replayer_state p).told l')
-        → TracedWhole images log k' ending l l' t t'
-    traced_whole ending fits run lines =
-        let ended = is_told ending _ (replayer_state p).told run.told_end in
-        let seen = replayed k (replayer_state s).told p None None None None fresh log same
-        first Ownership images opened k' ending t t' run.runs.0 run.runs.1 run.runs.2 fits ended in
-        record {
-          seen = seen.0;
-          replayed = seen.1;
-          shows = seen.2.shows;
-          counted = seen.2.counted;
-          lines_are = whole_lines k (replayer_state s).told fresh p log same first images opened
-              l l' fits ended lines;
-        }
+    where
+      pub traced_whole : (ending : Ending) → FitsLog log → Runs (Ok ending)
+          → TracesBy (trace_lines k.config k.state) (traced (replayer_state s).told l)
+          (traced (replayer_state p).told l')
+          → TracedWhole images log k' ending l l' t t'
+      traced_whole ending fits run lines =
+          let ended = is_told ending _ (replayer_state p).told run.told_end in
+          let seen = replayed k (replayer_state s).told p None None None None fresh log same
+          first Ownership images opened k' ending t t' run.runs.0 run.runs.1 run.runs.2 fits ended in
+          record {
+            seen = seen.0;
+            replayed = seen.1;
+            shows = seen.2.shows;
+            counted = seen.2.counted;
+            lines_are = whole_lines k (replayer_state s).told fresh p log same first images opened
+                l l' fits ended lines;
+          }
 
-    -- the misfit is of the entry that came next
-    entry_is : (found : Misfit) → Runs (Err (stops.Misfit found)) → IsReplay p
-        → found.entry ≡ p.answered
-    entry_is found run kept =
-        let asked = run.asks in
-        let is : IsMisfitOf p asked.question (shims.Misfit found) =
-        subst (λ (o : Option ShimStop). IfSome o (IsMisfitOf p asked.question)) run.causes.shim.1
-        (subst (λ (o : Option Question). IfSome o (λ q. IfSome p.last (IsMisfitOf p q)))
-        asked.asked_is kept.stop) in
-        let here : Misfit =
-        record { entry = entries_used p; kept = is.kept; asked = asked.question } in
-        let used_is : entries_used p ≡ p.answered = omega (arith, first) in
-        ap (λ (m : Misfit). m.entry) (one_misfit found here is.says) ∙ used_is
+      -- the misfit is of the entry that came next
+      entry_is : (found : Misfit) → Runs (Err (stops.Misfit found)) → IsReplay p
+          → found.entry ≡ p.answered
+      entry_is found run kept =
+          let asked = run.asks in
+          let is : IsMisfitOf p asked.question (shims.Misfit found) =
+          subst (λ (o : Option ShimStop). IfSome o (IsMisfitOf p asked.question)) run.causes.shim.1
+          (subst (λ (o : Option Question). IfSome o (λ q. IfSome p.last (IsMisfitOf p q)))
+          asked.asked_is kept.stop) in
+          let here : Misfit =
+          record { entry = entries_used p; kept = is.kept; asked = asked.question } in
+          let used_is : entries_used p ≡ p.answered = omega (arith, first) in
+          ap (λ (m : Misfit). m.entry) (one_misfit found here is.says) ∙ used_is
 
-    pub traced_until : (stop : TraceStop) (found : Misfit) → stop ≡ traces.Run (stops.Misfit found)
-        → IsReplay p → OfRun {T = Ending} (Err stop) Runs
-        → Traces k.config (Err stop) k.state k'.state (traced (replayer_state s).told l)
-        (traced (replayer_state p).told l')
-        → TracedUntil images log found l l' t t'
-    traced_until stop found is kept run lines =
-        let run : Runs (Err (stops.Misfit found)) =
-        subst (λ (x : TraceStop). OfRun {T = Ending} (Err x) Runs) is run in
-        let lines : TracesBy (trace_lines k.config k.state) (traced (replayer_state s).told l)
-        (traced (replayer_state p).told l') =
-        subst (λ (x : TraceStop). Traces k.config (Err x) k.state k'.state
-        (traced (replayer_state s).told l) (traced (replayer_state p).told l')) is lines in
-        let until = replayed_until k (replayer_state s).told p None None None None fresh log same
-        first Ownership images opened (stops.Misfit found) found s refl run.asks run.causes.shim
-        kept t t'
-        run.grew in
-        record {
-          output = until.0;
-          error = until.1;
-          work = until.2;
-          replayed = until.3;
-          counted = until.4.counted;
-          lines_are = until_lines k (replayer_state s).told fresh p log same first images opened
-              l l' found.entry (entry_is found run kept) lines;
-        }
+      pub traced_until : (stop : TraceStop) (found : Misfit) → stop ≡ traces.Run (stops.Misfit found)
+          → IsReplay p → OfRun {T = Ending} (Err stop) Runs
+          → Traces k.config (Err stop) k.state k'.state (traced (replayer_state s).told l)
+          (traced (replayer_state p).told l')
+          → TracedUntil images log found l l' t t'
+      traced_until stop found is kept run lines =
+          let run : Runs (Err (stops.Misfit found)) =
+          subst (λ (x : TraceStop). OfRun {T = Ending} (Err x) Runs) is run in
+          let lines : TracesBy (trace_lines k.config k.state) (traced (replayer_state s).told l)
+          (traced (replayer_state p).told l') =
+          subst (λ (x : TraceStop). Traces k.config (Err x) k.state k'.state
+          (traced (replayer_state s).told l) (traced (replayer_state p).told l')) is lines in
+          let until = replayed_until k (replayer_state s).told p None None None None fresh log same
+          first Ownership images opened (stops.Misfit found) found s refl run.asks run.causes.shim
+          kept t t'
+          run.grew in
+          record {
+            output = until.0;
+            error = until.1;
+            work = until.2;
+            replayed = until.3;
+            counted = until.4.counted;
+            lines_are = until_lines k (replayer_state s).told fresh p log same first images opened
+                l l' found.entry (entry_is found run kept) lines;
+          }
 
-    fault_is : (stop : TraceStop) → stop ≡ traces.LineFault
-        → IsErrOf {T = Ending} (Err stop) traces.LineFault
-    fault_is stop is = cc
+      fault_is : (stop : TraceStop) → stop ≡ traces.LineFault
+          → IsErrOf {T = Ending} (Err stop) traces.LineFault
+      fault_is stop is = cc
 
-    pub traced_ahead : (stop : TraceStop) → stop ≡ traces.LineFault
-        → Traces k.config (Err stop) k.state k'.state (traced (replayer_state s).told l)
-        (traced (replayer_state p).told l')
-        → (IsErrOf {T = Ending} (Err stop) traces.LineFault → Counts k.config k.state
-        (replayer_state s).told (replayer_state p).told t t')
-        → TracedAhead images log l l' t t'
-    traced_ahead stop is lines counted =
-        ahead_lines k (replayer_state s).told fresh p log same first images opened l l' t t'
-        (counted (fault_is stop is))
-        (subst (λ (x : TraceStop). Traces k.config (Err x) k.state k'.state
-        (traced (replayer_state s).told l) (traced (replayer_state p).told l')) is lines)
+      pub traced_ahead : (stop : TraceStop) → stop ≡ traces.LineFault
+          → Traces k.config (Err stop) k.state k'.state (traced (replayer_state s).told l)
+          (traced (replayer_state p).told l')
+          → (IsErrOf {T = Ending} (Err stop) traces.LineFault → Counts k.config k.state
+          (replayer_state s).told (replayer_state p).told t t')
+          → TracedAhead images log l l' t t'
+      traced_ahead stop is lines counted =
+          ahead_lines k (replayer_state s).told fresh p log same first images opened l l' t t'
+          (counted (fault_is stop is))
+          (subst (λ (x : TraceStop). Traces k.config (Err x) k.state k'.state
+          (traced (replayer_state s).told l) (traced (replayer_state p).told l')) is lines)
 
   -- its own sinks never fail, so it stops by the shim alone
   by_run : (stop : RunStop) → IsReplay p → Runs (Err stop) → StopsTrace (traces.Run stop)
