@@ -122,13 +122,13 @@ fn replay_taken<O: Sink, E: Sink, W: Workers>(
     // whatever files and a host tell, where they stay
     ensures did { IfOk result (λ ending. (tells : Bool) (f f' : List ℕ → Option (List ℕ))
         (h : HostSeen) → ((n : List ℕ) → f' n ≡ f n)
-        → DidReplay log images.now (ending_status ending)
+        → DidReplay scheme log images.now (ending_status ending)
         (outside tells f f' h h (O.told out.old) (O.told out.new) (E.told err.old) (E.told err.new)
         (W.tally workers.old) (W.tally workers.new))) }
     ensures room { OnOk result (needed images.now ≤ log.header.frames) }
     ensures leaves { IfErr result (λ why. (tells : Bool) (f f' : List ℕ → Option (List ℕ))
         (h : HostSeen) (k k' m : ℕ) → ((n : List ℕ) → f' n ≡ f n)
-        → LeavesTaken log images.now
+        → LeavesTaken scheme log images.now
         (outside tells f f' h h (O.told out.old) (O.told out.new) (E.told err.old) (E.told err.new)
         (W.tally workers.old) (W.tally workers.new))
         (faults k k' m m (O.faults out.old) (O.faults out.new) (E.faults err.old)
