@@ -57,7 +57,8 @@ module _ (k k' : Held) (s p : ReplayState) (log : Log) (fresh : (replayer_state 
       traced_whole ending fits run lines =
           let ended = is_told ending _ (replayer_state p).told run.told_end in
           let seen = replayed k (replayer_state s).told p None None None None fresh log same
-          first Ownership images opened k' ending t t' run.runs.0 run.runs.1 run.runs.2 fits ended in
+          first Ownership images opened k' ending t t' run.runs.0 run.runs.1 run.runs.2 fits
+          ended in
           record {
             seen = seen.0;
             replayed = seen.1;
@@ -81,8 +82,8 @@ module _ (k k' : Held) (s p : ReplayState) (log : Log) (fresh : (replayer_state 
           let used_is : entries_used p ≡ p.answered = omega (arith, first) in
           ap (λ (m : Misfit). m.entry) (one_misfit found here is.says) ∙ used_is
 
-      pub traced_until : (stop : TraceStop) (found : Misfit) → stop ≡ traces.Run (stops.Misfit found)
-          → IsReplay p → OfRun {T = Ending} (Err stop) Runs
+      pub traced_until : (stop : TraceStop) (found : Misfit)
+          → stop ≡ traces.Run (stops.Misfit found) → IsReplay p → OfRun {T = Ending} (Err stop) Runs
           → Traces k.config (Err stop) k.state k'.state (traced (replayer_state s).told l)
           (traced (replayer_state p).told l')
           → TracedUntil images log found l l' t t'
