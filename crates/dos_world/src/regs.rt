@@ -1,5 +1,5 @@
 // The registers of a thread.
-ghost use Rattle.std.specs.Prelude.{◌≡◌, ◌<◌};
+ghost use Rattle.std.specs.Prelude.{◌≡◌, ◌≢◌, ◌<◌};
 ghost use Rattle.dos_world.specs.World.{get, set, with_pc, with_held, blank};
 
 use std::marker::Model;
@@ -54,6 +54,16 @@ impl Regs {
         if index != 0 {
             self.numbers[index as usize] = value;
         }
+    }
+
+    /// Sets x1 to x31, as `set` does, without a test for x0.
+    #[inline(always)]
+    pub fn set_nonzero(&mut self, index: u8, value: u32)
+        requires small { index < 32 }
+        requires nonzero { index ≢ 0 }
+        ensures { self.new ≡ set self.old index value }
+    {
+        self.numbers[index as usize] = value;
     }
 
     /// The address of the next instruction.
