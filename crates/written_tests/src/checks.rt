@@ -40,10 +40,34 @@ fn read(words: &WrittenWords, frame: u32, offset: u32, old: [u8; 4]) -> Option<[
     Some(words.over(frame, offset, old))
 }
 
+/// The number at an offset if it was written whole and is found at first sight. None where no word
+/// is there.
+fn whole(words: &WrittenWords, frame: u32, offset: u32) -> Option<Option<u32>> {
+    if offset >= 4096 || !Size::Word.is_aligned(offset) {
+        return None;
+    }
+    Some(words.whole(frame, offset))
+}
+
 /// Does a store, and compares whether it was taken.
 pub(crate) fn check_store(rt: &impl Abort, words: &mut WrittenWords, store: Store, taken: bool) {
     let place = (store.0, store.1);
     same_at(rt, stored(words, store), Some(taken), place);
+}
+
+/// Whether a store was done at first sight. None where no access is at such an offset.
+fn stored_again(words: &mut WrittenWords, store: Store) -> Option<bool> {
+    let (frame, offset, size, value) = store;
+    if offset >= 4096 || !size.is_aligned(offset) {
+        return None;
+    }
+    Some(words.store_again(frame, offset, size, value))
+}
+
+/// Does a store if its word is found at first sight, and compares whether it was.
+pub(crate) fn check_again(rt: &impl Abort, words: &mut WrittenWords, store: Store, done: bool) {
+    let place = (store.0, store.1);
+    same_at(rt, stored_again(words, store), Some(done), place);
 }
 
 /// Does the stores, each of which is taken.
@@ -62,6 +86,17 @@ pub(crate) fn check_read(
     wanted: [u8; 4],
 ) {
     same_at(rt, read(words, place.0, place.1, old), Some(wanted), place);
+}
+
+/// Compares the number at a place, by its frame and offset, where it was written whole and is found
+/// at first sight.
+pub(crate) fn check_whole(
+    rt: &impl Abort,
+    words: &WrittenWords,
+    place: (u32, u32),
+    wanted: Option<u32>,
+) {
+    same_at(rt, whole(words, place.0, place.1), Some(wanted), place);
 }
 
 pub(crate) fn check_words(rt: &impl Abort, words: &WrittenWords, wanted: &[Written]) {

@@ -21,7 +21,7 @@ fn put(memory: &mut Memory, frame: u32, offset: u32, byte: u8) {
 }
 
 // The bytes of a value that a mask names, one after another.
-fn put_by(memory: &mut Memory, frame: u32, offset: u32, mask: u8, value: u32) {
+fn put_by(memory: &mut Memory, frame: u32, offset: u32, mask: u32, value: u32) {
     let [a, b, c, d] = value.to_le_bytes();
     for (index, bit, byte) in [(0, 1, a), (1, 2, b), (2, 4, c), (3, 8, d)] {
         if mask & bit != 0 {

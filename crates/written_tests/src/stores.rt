@@ -1,12 +1,14 @@
 //! Bytes, halves and words that meet in a word, or lie in two.
-use crate::checks::{Store, check_read, check_words, no_words, store_all};
+use crate::checks::{
+    Store, check_again, check_read, check_whole, check_words, no_words, store_all,
+};
 use dos_world::Size;
 use std::process::Abort;
 use written_words::{Written, WrittenWords};
 
 const OLD: [u8; 4] = [0x11, 0x22, 0x33, 0x44];
 
-fn word(frame: u32, offset: u32, mask: u8, value: u32) -> Written {
+fn word(frame: u32, offset: u32, mask: u32, value: u32) -> Written {
     Written {
         frame,
         offset,
@@ -17,7 +19,7 @@ fn word(frame: u32, offset: u32, mask: u8, value: u32) -> Written {
 
 /// Stores into the word at offset 4 of frame 7, one after another; mask and value of the one word
 /// that they leave; and what is read there over the bytes above.
-type Row = (&'static [Store], (u8, u32), [u8; 4]);
+type Row = (&'static [Store], (u32, u32), [u8; 4]);
 
 const ONE_WORD: [Row; 12] = [
     (
@@ -141,5 +143,75 @@ fn stores_beside_each_other_lie_in_two_words(rt: HostRuntime) {
     check_read(&rt, &words, (7, 4092), OLD, [2, 1, 4, 3]);
     check_read(&rt, &words, (8, 0), OLD, [0x0d, 0x0c, 0x0b, 0x0a]);
     check_read(&rt, &words, (8, 4092), OLD, OLD);
+    drop(words);
+}
+
+/// Stores, and the number in the word at offset 4 of frame 7 after each. None while a byte of it
+/// isn't written, or where it isn't found at first sight.
+const WHOLE: [(Store, Option<u32>); 11] = [
+    ((7, 6, Size::Byte, 0x33), None),
+    ((7, 4, Size::Byte, 0x11), None),
+    ((7, 7, Size::Byte, 0x44), None),
+    // the lowest byte first
+    ((7, 5, Size::Byte, 0x22), Some(0x4433_2211)),
+    // stored over
+    ((7, 6, Size::Half, 0xbbcc), Some(0xbbcc_2211)),
+    ((7, 4, Size::Word, 0x89ab_cdef), Some(0x89ab_cdef)),
+    ((7, 4, Size::Word, 0), Some(0)),
+    // beside it and in another frame
+    ((7, 8, Size::Byte, 1), Some(0)),
+    ((7, 0, Size::Word, 2), Some(0)),
+    ((8, 4, Size::Half, 3), Some(0)),
+    // behind the later word of its chain, which those of frames have that differ by 1024
+    ((1031, 4, Size::Word, u32::MAX), None),
+];
+
+#[test]
+fn a_word_is_whole_once_its_bytes_are_written(rt: HostRuntime) {
+    let mut words = no_words(rt.alloc()).expect(&rt, "memory");
+    check_whole(&rt, &words, (7, 4), None);
+    for (store, wanted) in WHOLE {
+        store_all(&rt, &mut words, &[store]);
+        check_whole(&rt, &words, (7, 4), wanted);
+    }
+    let rows = [
+        ((7, 8), None),
+        ((7, 0), Some(2)),
+        ((8, 4), None),
+        ((1031, 4), Some(0xffff_ffff)),
+        ((7, 12), None),
+        ((6, 4), None),
+    ];
+    for (place, wanted) in rows {
+        check_whole(&rt, &words, place, wanted);
+    }
+    words.clear();
+    check_whole(&rt, &words, (7, 4), None);
+    // two halves
+    let halves = [(7, 6, Size::Half, 0x0304), (7, 4, Size::Half, 0x0102)];
+    store_all(&rt, &mut words, &halves);
+    check_whole(&rt, &words, (7, 4), Some(0x0304_0102));
+    drop(words);
+}
+
+#[test]
+fn a_word_is_stored_again_where_it_is_found_at_first_sight(rt: HostRuntime) {
+    let mut words = no_words(rt.alloc()).expect(&rt, "memory");
+    check_again(&rt, &mut words, (7, 4, Size::Word, 1), false);
+    check_words(&rt, &words, &[]);
+    store_all(&rt, &mut words, &[(7, 4, Size::Byte, 0xaa)]);
+    check_again(&rt, &mut words, (7, 6, Size::Half, 0xbbcc), true);
+    check_words(&rt, &words, &[word(7, 4, 0b1101, 0xbbcc_00aa)]);
+    check_again(&rt, &mut words, (7, 4, Size::Word, 0x89ab_cdef), true);
+    // elsewhere
+    check_again(&rt, &mut words, (7, 8, Size::Word, 1), false);
+    check_again(&rt, &mut words, (8, 4, Size::Word, 1), false);
+    check_words(&rt, &words, &[word(7, 4, 0b1111, 0x89ab_cdef)]);
+    // behind the later word of its chain
+    store_all(&rt, &mut words, &[(1031, 4, Size::Word, 2)]);
+    check_again(&rt, &mut words, (7, 4, Size::Word, 3), false);
+    check_again(&rt, &mut words, (1031, 4, Size::Word, 4), true);
+    let wanted = [word(7, 4, 0b1111, 0x89ab_cdef), word(1031, 4, 0b1111, 4)];
+    check_words(&rt, &words, &wanted);
     drop(words);
 }

@@ -17,7 +17,7 @@ use Rattle.dos_world.specs.Bytes.{bytes_of}
 use Rattle.written_words.specs.declared.Written.{Written}
 use Rattle.written_words.specs.Words.{is_at, with_word_changed, with_bytes_from}
 use Rattle.written_words.specs.Index.{FramesAreMarked, HasNoneOf, IsIndexed, IsLast, IsAlignedWord}
-use Rattle.written_words.specs.Index.{chain_of}
+use Rattle.written_words.specs.Index.{IsFound, chain_of}
 
 -- ---- a search
 
@@ -50,7 +50,7 @@ got-within [] x i h = cc
 got-within (a ∷ xs) x zero h = omega arith
 got-within (a ∷ xs) x (suc i) h = let r = got-within xs x i h in omega (arith, r)
 
-pub three : (n : ℕ) → n + 2 ≤ 4 → 3 * 2 ^ n % 256 ≡ 3 * 2 ^ n
+pub three : (n : ℕ) → n + 2 ≤ 4 → 3 * 2 ^ n % 2 ^ 32 ≡ 3 * 2 ^ n
 three zero h = refl
 three (suc zero) h = refl
 three (suc (suc zero)) h = refl
@@ -154,6 +154,24 @@ changed-one f o change (y ∷ words) (suc place) x h is only =
     by_test rest false q =
         ap (λ b. cond b (change y) y ∷ with_word_changed f o change words) q
         ∙ ap (λ xs. y ∷ xs) rest
+
+-- ---- at first sight
+
+-- the last word of a chain, where there is one
+pub last-within : (words : List Written) (before last : List ℕ) → IsIndexed words before last
+    → (chain : ℕ) → chain < 1024 → slice_index last chain ≤ length words
+last-within words before last h chain small = (h.heads chain small).within
+
+-- a word of this frame and offset is the only one
+pub only-one : (words : List Written) (before last : List ℕ) → IsIndexed words before last
+    → (f o place : ℕ) (x : Written) → slice_get words place ≡ Some x → x.frame ≡ f
+    → x.offset ≡ o → IsFound words f o place
+only-one words before last h f o place x at a b = record {
+  word = x;
+  here = at;
+  is = is_at-true f o x a b;
+  only = λ i y g d e. h.apart i place y x g at (d ∙ sym a) (e ∙ sym b);
+}
 
 -- ---- nothing in it
 

@@ -8,6 +8,7 @@ use Rattle.std.specs.Prelude.{All}
 use Rattle.std.specs.List.{list_any}
 use Rattle.std.proofs.lemmas.Bool.{cases_lt}
 use Rattle.std.proofs.lemmas.Bool.Decides.{eqb_tells}
+use Rattle.std.proofs.lemmas.List.{length-drop, length-take-le}
 use Rattle.std.proofs.lemmas.List.Elements.{All-head, All-tail}
 use Rattle.std.proofs.lemmas.Option.{get_or_from_slice_get, slice_get_within}
 use Rattle.dos_world.specs.Bytes.{bytes_of, number_of}
@@ -229,6 +230,17 @@ module _ (words : List Written) (before last : List ℕ) (h : IsIndexed words be
       (ap (λ a. 4096 * a + x.offset) frame ∙ ap (λ b. 4096 * f + b) offset)
       (λ i y g other. elsewhere i y g (λ a b. other (h.apart i place y x g at
       (a ∙ sym frame) (b ∙ sym offset)))))
+
+-- a word of which all bytes are written is what stands there, whatever did before
+pub all-written : (old new : List ℕ) → length old ≡ 4 → length new ≡ 4
+    → written_by 15 old 0 new ≡ new
+all-written (a ∷ b ∷ c ∷ d ∷ []) (e ∷ f ∷ g ∷ h ∷ []) p q = refl
+all-written old new p q = cc
+
+pub window-length : (n p : ℕ) (bytes : List ℕ) → p + n ≤ length bytes
+    → length (take n (drop p bytes)) ≡ n
+window-length n p bytes fits =
+    length-take-le n (drop p bytes) (omega (arith, fits, length-drop p bytes))
 
 -- ---- a page without words
 

@@ -124,6 +124,28 @@ or-split m k =
     ap (λ x. bit_or x k) a ∙ ap (λ x. bit_or (m / 2 * 2 ^ 1 + m % 2) x) b
     ∙ or_block 1 (m / 2) (k / 2) (m % 2) (k % 2) (omega arith) (omega arith)
 
+or-bit : (r : ℕ) → r < 2 → bit_or r 1 ≡ 1
+or-bit zero h = refl
+or-bit (suc zero) h = refl
+or-bit (suc (suc r)) h = absurd (omega (arith, h))
+
+or-step : (m k : ℕ) → bit_or (m / 2) k ≡ k → bit_or m (2 * k + 1) ≡ 2 * k + 1
+or-step m k h =
+    let half : (2 * k + 1) / 2 ≡ k = omega arith in
+    let odd : (2 * k + 1) % 2 ≡ 1 = omega arith in
+    or-split m (2 * k + 1)
+    ∙ ap (λ q. bit_or (m / 2) q * 2 + bit_or (m % 2) ((2 * k + 1) % 2)) half
+    ∙ ap (λ q. q * 2 + bit_or (m % 2) ((2 * k + 1) % 2)) h
+    ∙ ap (λ q. k * 2 + bit_or (m % 2) q) odd
+    ∙ ap (λ q. k * 2 + q) (or-bit (m % 2) (omega arith)) ∙ omega arith
+
+-- a mask with that of a whole word is that of a whole word
+pub or-whole : (mask : ℕ) → mask < 16 → bit_or mask 15 ≡ 15
+or-whole mask h =
+    let none : mask / 2 / 2 / 2 / 2 ≡ 0 = omega (arith, h) in
+    or-step mask 7 (or-step (mask / 2) 3 (or-step (mask / 2 / 2) 1 (or-step (mask / 2 / 2 / 2) 0
+    (ap (λ q. bit_or q 0) none))))
+
 low-or : (r s : ℕ) → r < 2 → s < 2
     → (bit_or r s < 2) × (eqb (bit_or r s) 1 ≡ (eqb s 1 || eqb r 1))
 low-or zero zero a b = (omega arith, refl)

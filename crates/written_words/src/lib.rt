@@ -16,6 +16,6 @@ pub use words::WrittenWords;
 pub struct Written {
     pub frame: u32,
     pub offset: u32,
-    pub mask: u8,
+    pub mask: u32,
     pub value: u32,
 }

@@ -1,6 +1,7 @@
 // The words that a thread has written.
 ghost use Rattle.std.specs.Prelude.{◌≡◌, ◌+◌, ◌*◌, ◌≤◌, ◌<◌, ◌%◌, ◌++◌, ◌∷◌, ℕ, List, [], true};
-ghost use Rattle.std.specs.Prelude.{false, Some, None, IfOk, MatchOption, if◌then◌else◌, length};
+ghost use Rattle.std.specs.Prelude.{false, Some, None, IfOk, IfSome, MatchOption, length};
+ghost use Rattle.std.specs.Prelude.{if◌then◌else◌};
 ghost use Rattle.std.specs.Prelude.{take, drop, replicate, slice_get, slice_set};
 ghost use Rattle.std.specs.List.{list_any};
 ghost use Rattle.dos_world.specs.World.{page_of};
@@ -11,7 +12,7 @@ ghost use Rattle.written_words.specs.Index.{HasNoneOf, IsFound, IsAlignedWord};
 
 use crate::Written;
 use crate::index::chain;
-use crate::merge::{bytes_over, with_value};
+use crate::merge::{WHOLE, bytes_over, with_value};
 use dos_world::Size;
 use std::alloc::{AllocError, Global};
 use std::marker::Model;
@@ -134,6 +135,23 @@ impl WrittenWords {
         None
     }
 
+    // the same, if it is the last one of its chain, as it mostly is
+    #[inline(always)]
+    fn find_last(&self, frame: u32, offset: u32) -> Option<usize>
+        ensures { IfSome result (λ place. IsFound self.now frame offset place) }
+    {
+        let last = self.last[chain(frame, offset)] as usize;
+        if last == 0 {
+            return None;
+        }
+        let place = last - 1;
+        let word = self.words[place];
+        if word.frame == frame && word.offset == offset {
+            return Some(place);
+        }
+        None
+    }
+
     // one word more
     fn add(&mut self, word: Written)
         requires few { length self.old < 1024 }
@@ -193,6 +211,54 @@ impl WrittenWords {
                 self.add(with_value(word, offset % 4, size, value));
                 true
             }
+        }
+    }
+
+    /// Stores as `store` does where the word has been written and is found at first sight, without
+    /// a loop. False, and nothing is changed, where it isn't.
+    #[inline(always)]
+    pub fn store_again(&mut self, frame: u32, offset: u32, size: Size, value: u32) -> bool
+        requires within { offset < 4096 }
+        requires aligned { offset % width size ≡ 0 }
+        ensures words { result ≡ true
+            → with_stored self.old frame offset (bytes_of (width size) value) ≡ Some self.new }
+        ensures put { result ≡ true → (bytes : List ℕ) → words_put bytes self.new
+            ≡ written (words_put bytes self.old) (4096 * frame + offset)
+            (bytes_of (width size) value) }
+        ensures same { result ≡ false → self.new ≡ self.old }
+    {
+        // that the words are indexed is known of what is kept of them
+        let _count = self.words.len();
+        match self.find_last(frame, offset / 4 * 4) {
+            Some(place) => {
+                self.change(place, offset % 4, size, value);
+                true
+            }
+            None => false,
+        }
+    }
+
+    /// The number at an offset in a frame where the thread has written all four bytes of it, and
+    /// the word is found at first sight: what it reads there, whatever memory has.
+    #[inline(always)]
+    pub fn whole(&self, frame: u32, offset: u32) -> Option<u32>
+        requires within { offset < 4096 }
+        requires aligned { offset % 4 ≡ 0 }
+        ensures { IfSome result (λ number. (bytes : List ℕ)
+            → 4096 * frame + offset + 4 ≤ length bytes
+            → take 4 (drop (4096 * frame + offset) (words_put bytes self.now))
+            ≡ bytes_of 4 number) }
+    {
+        match self.find_last(frame, offset) {
+            Some(place) => {
+                let word = self.words[place];
+                if word.mask == WHOLE {
+                    Some(word.value)
+                } else {
+                    None
+                }
+            }
+            None => None,
         }
     }
 
