@@ -5,6 +5,7 @@
 mod form_perform;
 mod memory;
 mod next;
+pub mod nonzero;
 pub mod numbers;
 mod on_memory;
 pub mod on_registers;
