@@ -1,5 +1,5 @@
 //! What all tests do with pages of code. An assert is a way out, so it stands here.
-use code_pages::{CodePages, Kind, Line};
+use code_pages::{CodePages, Kind, Line, line_from};
 use std::alloc::{AllocError, Global};
 use std::fmt::Debug;
 use std::process::Abort;
@@ -88,7 +88,10 @@ fn line_at(pages: &CodePages, place: usize, offset: u32) -> Option<usize> {
     if offset >= 4096 {
         return None;
     }
-    Some(pages.line_at(place, offset))
+    match pages.starts(place) {
+        Some(starts) => Some(line_from(starts, offset)),
+        None => Some(0),
+    }
 }
 
 /// Learns the code at an offset, and compares its line.

@@ -252,3 +252,40 @@ fn without_places_nothing_is_known(rt: HostRuntime) {
     check_count(&rt, &pages, 0);
     drop(pages);
 }
+
+#[test]
+fn what_writes_x0_is_among_the_others(rt: HostRuntime) {
+    let mut pages = no_pages(rt.alloc()).expect(&rt, "memory");
+    let page = page_with(&[
+        (0, 0x00412003), // lw x0, 4(x2)
+        (4, 0x00414003), // lbu x0, 4(x2)
+        (8, 0x00000013), // addi x0, x0, 0, which is nop
+        (12, 0x0001), // c.nop
+        (14, 0x00208033), // add x0, x1, x2
+        (18, 0x00209013), // slli x0, x1, 2
+        (22, 0x0020D013), // srli x0, x1, 2
+        (26, 0x0020C033), // xor x0, x1, x2
+        (30, 0x0020F033), // and x0, x1, x2
+        (34, 0x00008067), // jalr x0, 0(x1), which is ret
+    ]);
+    check_show(&rt, &mut pages, 0, &page, true);
+    check_line(&rt, &mut pages, 0, 0, 1);
+    check_lines(
+        &rt,
+        &pages,
+        1,
+        &[
+            (0, 9, Kind::Other, false, 4),
+            (4, 8, Kind::Other, false, 4),
+            (8, 7, Kind::Other, false, 4),
+            (12, 6, Kind::Other, false, 2),
+            (14, 5, Kind::Other, false, 4),
+            (18, 4, Kind::Other, false, 4),
+            (22, 3, Kind::Other, false, 4),
+            (26, 2, Kind::Other, false, 4),
+            (30, 1, Kind::Other, false, 4),
+            (34, 0, Kind::Jalr, false, 4),
+        ],
+    );
+    drop(pages);
+}

@@ -1,6 +1,6 @@
 -- The kind of an operation is that of each form with it.
 use Rattle.std.proofs.Common.{ℕ, ◌≡◌, refl, ap, ◌∙◌, Bool, true, false, Option, Some, None, cond}
-use Rattle.std.proofs.Common.{sym, subst, eqb, ◌%◌}
+use Rattle.std.proofs.Common.{sym, subst, eqb, ◌%◌, ◌⊎◌, inl, inr}
 use Rattle.std.specs.Prelude.{⊤, option_map, unwrap_or}
 use Rattle.rv_isa.specs.declared.Instr.{Instr}
 use Rattle.rv_isa.specs.declared.Instr.TheVariants as instr
@@ -11,7 +11,9 @@ use Rattle.rv_form.specs.declared.form.Op.TheVariants as op
 use Rattle.rv_form.specs.declared.form.Form.{Form}
 use Rattle.rv_form.specs.Forms.{instr_of, instr_of_form, plain_sized, IsFormOf}
 use Rattle.code_pages.specs.Codes.{code_size}
-use Rattle.code_pages.specs.Kinds.{IsOfKind}
+use Rattle.code_pages.specs.Kinds.{IsOfKind, writes}
+use Rattle.code_pages.specs.declared.kind.Kind.{Kind}
+use Rattle.code_pages.specs.declared.kind.Kind.TheVariants as kind
 use Rattle.code_pages.specs.KindTable.{kind_of_op}
 
 -- an instruction, if any, of this size
@@ -134,3 +136,32 @@ of_code f code is =
     of_op f f.op (code_size code) (subst (λ o. HasSize o (code_size code)) (sym is)
     (code-size code))
     refl
+
+-- a form that is of a kind which writes a register is of the others too
+other-too : (k : Kind) (turned : Bool) (f : Form) (size : ℕ) → writes k ≡ true
+    → IsOfKind k turned f size → IsOfKind kind.Other turned f size
+other-too kind.Addi turned f size w is = other f _ _ size refl is
+other-too kind.Lw turned f size w is = other f _ _ size refl is
+other-too kind.Lbu turned f size w is = other f _ _ size refl is
+other-too kind.Add turned f size w is = other f _ _ size refl is
+other-too kind.Slli turned f size w is = other f _ _ size refl is
+other-too kind.Srli turned f size w is = other f _ _ size refl is
+other-too kind.Xor turned f size w is = other f _ _ size refl is
+other-too kind.And turned f size w is = other f _ _ size refl is
+other-too kind.Sw turned f size w is = cc
+other-too kind.Equal turned f size w is = cc
+other-too kind.Below turned f size w is = cc
+other-too kind.Less turned f size w is = cc
+other-too kind.Jal turned f size w is = cc
+other-too kind.Jalr turned f size w is = cc
+other-too kind.Other turned f size w is = cc
+other-too kind.End turned f size w is = cc
+
+-- a line that is of its kind by its operation is so where it is among the others instead
+pub of-kind-for : (k own : Kind) (turned : Bool) (f : Form) (size : ℕ)
+    → (own ≡ k) ⊎ ((writes k ≡ true) × (own ≡ kind.Other)) → IsOfKind k turned f size
+    → IsOfKind own turned f size
+of-kind-for k own turned f size (inl same) is =
+    subst (λ (x : Kind). IsOfKind x turned f size) (sym same) is
+of-kind-for k own turned f size (inr p) is =
+    subst (λ (x : Kind). IsOfKind x turned f size) (sym p.1) (other-too k turned f size p.0 is)

@@ -50,3 +50,15 @@ ends kind.Jal = true
 ends kind.Jalr = true
 ends kind.End = true
 ends k = false
+
+-- The instructions of this kind write a register other than x0; those that name x0 are of another.
+abbrev pub writes : Kind → Bool
+writes kind.Addi = true
+writes kind.Lw = true
+writes kind.Lbu = true
+writes kind.Add = true
+writes kind.Slli = true
+writes kind.Srli = true
+writes kind.Xor = true
+writes kind.And = true
+writes k = false

@@ -265,6 +265,12 @@ pub record AreKnownPages (known : Known) : Type 0 where
   pub places : (length known.pages ≡ 0)
       ⊎ ((length known.pages ≡ 256) × (0 < length known.lines))
 
+-- For each halfword of the page at a place, this is the line of the code that begins there, or 0.
+pub record AreStartsOf (known : Known) (place : ℕ) (starts : List ℕ) : Type 0 where
+  pub page : CodePage
+  pub is : slice_get known.pages place ≡ Some (Some page)
+  pub are : page.starts ≡ starts
+
 -- The code at this offset of the page at a place begins with this line.
 pub record IsStartIn (known : Known) (place offset at : ℕ) : Type 0 where
   pub page : CodePage

@@ -1,12 +1,13 @@
 // Which of the commonest instructions one is.
 ghost use Rattle.std.specs.Prelude.{◌≡◌};
-ghost use Rattle.code_pages.specs.Kinds.{ends};
+ghost use Rattle.code_pages.specs.Kinds.{ends, writes};
 ghost use Rattle.code_pages.specs.KindTable.{kind_of_op};
 
 use rv_form::Op;
 
 /// The commonest instructions by themselves, and the others in two kinds: those that go on behind
-/// them and touch registers and memory alone, and those at which a run ends.
+/// them and touch registers and memory alone, and those at which a run ends. One of the commonest
+/// that names x0 for its result is among the others, unless it is a jump.
 #[derive(Clone, Copy, PartialEq, Eq)]
 pub enum Kind {
     Addi,
@@ -120,6 +121,17 @@ pub(crate) fn kind_of(op: Op) -> (Kind, bool)
 }
 
 impl Kind {
+    /// Whether each instruction of it writes a register other than x0.
+    pub(crate) fn writes(self) -> bool
+        ensures { result ≡ writes self }
+    {
+        match self {
+            Kind::Addi | Kind::Lw | Kind::Lbu | Kind::Add => true,
+            Kind::Slli | Kind::Srli | Kind::Xor | Kind::And => true,
+            _ => false,
+        }
+    }
+
     /// Whether nothing goes on behind it.
     pub(crate) fn ends(self) -> bool
         ensures { result ≡ ends self }

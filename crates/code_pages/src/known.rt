@@ -9,7 +9,7 @@ ghost use Rattle.code_pages.specs.Lines.{bytes_of_page, bytes_of_pages, AreKnown
 ghost use Rattle.code_pages.specs.Lines.{IsLiveAt, AreSameBelow, AreSameBut, AreStartsFrom};
 ghost use Rattle.code_pages.specs.Lines.{IsStaleAt, starts_of_slot, start_in, slot_at};
 ghost use Rattle.code_pages.specs.Lines.{page_of_slot, runs_of, unlearnt, with_block};
-ghost use Rattle.code_pages.specs.Lines.{page_bytes_at};
+ghost use Rattle.code_pages.specs.Lines.{AreStartsOf, Known, page_bytes_at};
 
 use crate::Line;
 use crate::learning::Code;
@@ -188,6 +188,17 @@ fn forget_all(pages: &mut Vec<Option<Code>>)
     }
 }
 
+/// The line of the code at an offset of a page of which this is, for each halfword, the line of the
+/// code that begins there; 0 where none is known.
+#[inline(always)]
+pub fn line_from(starts: &[u16; 2048], offset: u32) -> usize
+    requires { offset < 4096 }
+    ensures { (known : Known) (place : ℕ) → AreStartsOf known place starts.now
+        → (result ≡ 0) ⊎ IsStartIn known place offset result }
+{
+    starts[(offset / 2) as usize] as usize
+}
+
 impl CodePages {
     /// No page, with room for all.
     pub fn reserve(alloc: Global) -> Result<CodePages, AllocError>
@@ -254,10 +265,25 @@ impl CodePages {
         self.lines.as_slice()
     }
 
+    /// For each halfword of the page at a place the line of the code that begins there, which may
+    /// be stale, and 0 for none. None where no page is known there.
+    #[inline(always)]
+    pub fn starts(&self, place: usize) -> Option<&[u16; 2048]>
+        ensures { IfSome result (λ starts. AreStartsOf self.now place starts.now) }
+    {
+        if place >= self.pages.len() {
+            return None;
+        }
+        match &self.pages[place] {
+            Some(code) => Some(code.starts()),
+            None => None,
+        }
+    }
+
     /// The line of the code at an offset of the page at a place, or 0 where none is known. It may
     /// be stale.
     #[inline(always)]
-    pub fn line_at(&self, place: usize, offset: u32) -> usize
+    fn line_at(&self, place: usize, offset: u32) -> usize
         requires { offset < 4096 }
         ensures start { (result ≡ 0) ⊎ IsStartIn self.now place offset result }
         ensures value { result ≡ start_in (slot_at self.now place) offset }

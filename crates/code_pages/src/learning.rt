@@ -121,6 +121,14 @@ impl Code {
         self.starts[(offset / 2) as usize] as usize
     }
 
+    /// For each halfword the line of the code that begins there, 0 for none.
+    #[inline(always)]
+    pub fn starts(&self) -> &[u16; 2048]
+        ensures { result.now ≡ self.now.starts }
+    {
+        &self.starts
+    }
+
     /// No line of it is known any more.
     pub fn forget(&mut self)
         ensures { self.new ≡ unlearnt self.old }

@@ -9,5 +9,5 @@ mod learning;
 mod line;
 
 pub use kind::Kind;
-pub use known::CodePages;
+pub use known::{CodePages, line_from};
 pub use line::Line;

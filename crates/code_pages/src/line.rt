@@ -1,9 +1,9 @@
 // One instruction of a page, as it is known.
-ghost use Rattle.std.specs.Prelude.{◌≡◌, ◌<◌};
+ghost use Rattle.std.specs.Prelude.{◌≡◌, ◌≢◌, ◌<◌, ◌⊎◌, true};
 ghost use Rattle.rv_form.specs.Forms.{IsFormOf};
-ghost use Rattle.code_pages.specs.declared.kind.Kind.TheVariants.{End};
+ghost use Rattle.code_pages.specs.declared.kind.Kind.TheVariants.{End, Other};
 ghost use Rattle.code_pages.specs.Codes.{code_size};
-ghost use Rattle.code_pages.specs.Kinds.{IsOfKind};
+ghost use Rattle.code_pages.specs.Kinds.{IsOfKind, writes};
 
 use crate::Kind;
 use crate::kind::kind_of;
@@ -22,6 +22,7 @@ pub struct Line {
     pub size: u8,
     ghost is: { IsOfKind kind turned form size },
     ghost sized: { size ≡ 0 → kind ≡ End },
+    ghost nonzero: { writes kind ≡ true → form.rd ≢ 0 },
 }
 
 /// A code's size in bytes.
@@ -29,6 +30,17 @@ fn code_size(code: u32) -> u8
     ensures { result ≡ code_size code }
 {
     if code % 4 == 3 { 4 } else { 2 }
+}
+
+/// The kind of an instruction that is of this kind by its operation and writes this register.
+fn kind_for(kind: Kind, rd: u8) -> Kind
+    ensures is { (result ≡ kind) ⊎ ((writes kind ≡ true) × (result ≡ Other)) }
+    ensures nonzero { writes result ≡ true → rd ≢ 0 }
+{
+    if rd == 0 && kind.writes() {
+        return Kind::Other;
+    }
+    kind
 }
 
 impl Line {
@@ -58,6 +70,7 @@ impl Line {
     {
         let form = form_of(code);
         let (kind, turned) = kind_of(form.op);
+        let kind = kind_for(kind, form.rd);
         Line {
             form,
             offset,
