@@ -1,4 +1,5 @@
 pub mod Pages
+pub mod Placed
 pub mod Counts
 pub mod Joined
 pub mod Copied

@@ -1,6 +1,6 @@
 -- Which pages of code were compared with what is known of them, by blocks of 256 bytes, and when
 -- that is right. This project's own rules.
-use Rattle.std.specs.Prelude.{ℕ, ◌≡◌, ◌+◌, ◌*◌, ◌<◌, ◌≤◌, ◌/◌, ◌%◌, ◌^◌, Bool, true, List}
+use Rattle.std.specs.Prelude.{ℕ, ◌≡◌, ◌≢◌, All, ◌+◌, ◌*◌, ◌<◌, ◌≤◌, ◌/◌, ◌%◌, ◌^◌, Bool, true, List}
 use Rattle.std.specs.Prelude.{Option, Some, slice_get, slice_index, slice_index_or}
 use Rattle.page_store.specs.Store.{whole}
 use Rattle.page_store.specs.declared.compared.Slot.{Slot}
@@ -28,6 +28,28 @@ code_place address = address / 4096 % 256
 -- where it stands whether the block of an address has been compared: 16 blocks for each slot
 abbrev pub block_place : ℕ → ℕ
 block_place address = address / 4096 % 64 * 16 + address % 4096 / 256
+
+-- A slot that has found a page is where the low byte of its frame says.
+abbrev pub SlotsArePlaced : List Slot → (places : List ℕ) → Type 0
+SlotsArePlaced slots places = (at : ℕ) → (slice_index_or slots at empty_slot).start < no_start
+    → slice_index_or places ((slice_index_or slots at empty_slot).frame % 256) 0 ≡ at
+
+-- No slot has this frame.
+abbrev pub IsNoCode : List Slot → ℕ → Type 0
+IsNoCode slots frame = All (λ slot. slot.start < no_start → slot.frame ≢ frame) slots
+
+-- No slot but this one has a frame with the low byte of this one.
+abbrev pub HasAlone : List Slot → (place frame : ℕ) → Type 0
+HasAlone slots place frame = (at : ℕ) → (slice_index_or slots at empty_slot).start < no_start
+    → (slice_index_or slots at empty_slot).frame % 256 ≡ frame % 256 → at ≡ place
+
+-- No block of this slot has been compared.
+abbrev pub IsUncompared : List Bool → (place : ℕ) → Type 0
+IsUncompared compared place = (at : ℕ) → at / 16 ≡ place → slice_get compared at ≢ Some true
+
+-- No block has been compared that hadn't been.
+abbrev pub AreFewer : (old new : List Bool) → Type 0
+AreFewer old new = (at : ℕ) → slice_get new at ≡ Some true → slice_get old at ≡ Some true
 
 -- Two pages have the same bytes in the block of an offset, and in the halfword behind it.
 abbrev pub AreSameAround : (offset : ℕ) → (a b : List ℕ) → Type 0

@@ -243,23 +243,6 @@ impl Frames {
         *self.pages.allocator()
     }
 
-    /// Gives away the pages of code that are known, for a thread that runs in place; None where
-    /// they are away. What was compared with them is forgotten.
-    pub fn take_code(&mut self) -> Option<Box<CodePages>>
-        ensures { self.new ≡ self.old }
-    {
-        self.unchanged = false;
-        self.code.take()
-    }
-
-    /// Keeps the pages of code that are known, for the next thread that runs in place.
-    pub fn keep_code(&mut self, code: Box<CodePages>)
-        ensures { self.new ≡ self.old }
-    {
-        self.unchanged = false;
-        self.code = Some(code);
-    }
-
     /// Gives away the pages of code that are known, and what was compared with them: nothing where
     /// a page has changed since they were kept. None where they are away.
     pub fn take_known(&mut self) -> Option<(Box<CodePages>, Box<Compared>)>

@@ -15,10 +15,11 @@ fn found(alloc: Global) -> Result<Box<Compared>, AllocError>
         → AreRight compared.value.slots compared.value.blocks pages known) }
 {
     let mut compared = Compared::nothing();
-    compared.slots[1] = Slot {
+    let page = Slot {
         start: 0x1000,
         frame: 0,
     };
+    let _ = compared.find(1, page);
     Ok(Box::new(alloc, compared)?)
 }
 
