@@ -4,7 +4,7 @@ use Rattle.std.proofs.Common.{inl, inr}
 use Rattle.std.proofs.Common.{refl, sym, ap, ◌∙◌, subst, arith, List, [], ◌∷◌, length, take}
 use Rattle.std.proofs.Common.{drop, set}
 use Rattle.std.proofs.Common.{Bool, true, false, Option, Some, None, slice_get, length-set}
-use Rattle.std.proofs.Common.{replicate}
+use Rattle.std.proofs.Common.{MutBor}
 use Rattle.std.proofs.Common.{map, eqb}
 use Rattle.std.specs.Prelude.{◌-◌, if◌then◌else◌, slice_index, slice_index_or, unwrap_or}
 use Rattle.std.specs.Option.{option_map}
@@ -19,10 +19,11 @@ use Rattle.page_store.proofs.Pages.{length-whole, length-zero_page}
 use Rattle.code_pages.specs.Lines.{AreKnownPages, CodePage, Known, bytes_of_pages, page_bytes_at}
 use Rattle.code_pages.specs.Lines.{with_block}
 use Rattle.page_store.specs.declared.compared.Slot.{Slot}
+use Rattle.page_store.specs.declared.compared.Compared.{Compared}
 use Rattle.quantum_run.specs.Finding.{no_start, page_start}
-use Rattle.quantum_run.specs.Knowing.{AreFewer, AreHidden, AreRight, AreSameAround, IsCompared}
-use Rattle.quantum_run.specs.Knowing.{IsNoCode, IsRightAt, IsUncompared, KeepsRight, block_place}
-use Rattle.quantum_run.specs.Knowing.{code_place, empty_slot, slot_of}
+use Rattle.quantum_run.specs.Knowing.{AreAmong, AreFewer, AreHidden, AreRight, AreSameAround}
+use Rattle.quantum_run.specs.Knowing.{IsCompared, IsNoCode, IsRightAt, IsUncompared, KeepsRight}
+use Rattle.quantum_run.specs.Knowing.{block_place, code_place, empty_slot, slot_of}
 use Rattle.quantum_run.specs.Pages.{Writes}
 
 -- ---- lists
@@ -75,14 +76,23 @@ slot-begins slots address fits found = omega (arith, found, fits)
 
 -- ---- what stays right
 
-pub keeps-same : {P : Type 0} (pages : P → List (Option (List ℕ))) (shown shown' : List Slot)
-    (compared compared' : List Bool) (p p' : P)
-    → shown' ≡ shown → compared' ≡ compared → p' ≡ p
-    → KeepsRight shown compared (pages p) shown' compared' (pages p')
-keeps-same {P} pages shown shown' compared compared' p p' s c same known are =
-    subst (λ (x : List Slot). AreRight x compared' (pages p') known) (sym s)
-    (subst (λ (x : List Bool). AreRight shown x (pages p') known) (sym c)
-    (subst (λ (x : P). AreRight shown compared (pages x) known) (sym same) are))
+pub keeps-same : {P : Type 0} (pages : P → List (Option (List ℕ))) (p p' : P)
+    (c c' : MutBor Compared) → c' ≡ c → p' ≡ p
+    → KeepsRight c.now.slots c.now.blocks (pages p) c'.now.slots c'.now.blocks (pages p')
+keeps-same {P} pages p p' c c' is same known are =
+    subst (λ (x : MutBor Compared). AreRight x.now.slots x.now.blocks (pages p') known) (sym is)
+    (subst (λ (x : P). AreRight c.now.slots c.now.blocks (pages x) known) (sym same) are)
+
+-- what is right is right by other names too
+pub right-same : (slots left : List Slot) (compared after : List Bool)
+    (pages new known more : List (Option (List ℕ))) → left ≡ slots → after ≡ compared
+    → new ≡ pages → more ≡ known → AreRight slots compared pages known
+    → AreRight left after new more
+right-same slots left compared after pages new known more same unchanged still is are =
+    subst (λ (x : List Slot). AreRight x after new more) (sym same)
+    (subst (λ (x : List Bool). AreRight slots x new more) (sym unchanged)
+    (subst (λ (x : List (Option (List ℕ))). AreRight slots compared x more) (sym still)
+    (subst (λ (x : List (Option (List ℕ))). AreRight slots compared pages x) (sym is) are)))
 
 -- what is right at an address is right by each list with the same slot
 right-there : (shown new : List Slot) (pages known : List (Option (List ℕ))) (address : ℕ)
@@ -127,6 +137,14 @@ keeps-hidden shown new compared pages hidden =
         let found = is.found in
         absurd (omega (arith, start, found, fits))
 
+-- those that a fetch has found in a part
+pub keeps-among : (slots shown : List Slot) (compared : List Bool) (pages : List (Option (List ℕ)))
+    → AreAmong slots shown → KeepsRight slots compared pages shown compared pages
+keeps-among slots shown compared pages kept =
+    keeps-fewer slots shown compared compared pages
+    (λ address fits is.
+    (kept (address / 4096 % 64) (slot-begins shown address fits is.found), is.is))
+
 -- a page more that a fetch finds, of which no block has been compared
 pub keeps-found : (shown : List Slot) (compared after : List Bool)
     (pages : List (Option (List ℕ))) (place : ℕ) (slot : Slot)
@@ -161,18 +179,6 @@ keeps-written shown compared pages new frame offset bytes writes free known are 
           ∙ right.there;
       same = right.same;
     }
-
--- nothing is compared yet
-pub right-begun : (shown : List Slot) (compared : List Bool) (pages known : List (Option (List ℕ)))
-    → compared ≡ replicate 1024 false → AreRight shown compared pages known
-right-begun shown compared pages known none address fits is =
-    absurd (never 1024 (block_place address)
-    (ap (λ (c : List Bool). slice_get c (block_place address)) (sym none) ∙ is.is))
-  where
-    never : (n i : ℕ) → slice_get (replicate n false) i ≡ Some true → ⊥
-    never zero i h = cc
-    never (suc n) zero h = cc
-    never (suc n) (suc i) h = never n i h
 
 -- ---- a block that is compared
 

@@ -7,6 +7,7 @@ pub mod Buffers
 pub mod Reaching
 pub mod RunSteps
 pub mod Flying
+pub mod FoundAgain
 pub mod Walking
 pub mod Stopping
 pub mod FlatRuns

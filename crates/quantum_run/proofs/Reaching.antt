@@ -1,4 +1,5 @@
 -- What the memory of a thread that runs answers to an access, by the frame that is found for it.
+use Rattle.std.specs.Borrow.{GName}
 use Rattle.std.proofs.Common.{ℕ, ◌+◌, ◌*◌, ◌%◌, ◌^◌, ◌≡◌, refl, sym, ap, ◌∙◌, subst, Bool, true}
 use Rattle.std.proofs.Common.{false}
 use Rattle.std.proofs.Common.{cond, eqb, eq-eqb, ne_eqb, List, [], ◌∷◌, ◌≢◌, take, drop, Option}
@@ -34,38 +35,40 @@ as-shown {F} {M} places now fixed state f m C s c =
     (subst (λ (x : Still). C (run_answers x (places fixed)) state) s.still c))
 
 -- a memory shows what it showed where nothing but what was found last is another
-pub shows-stays : {P F M : Type 0} (fixed : P → F) (state : P → M) (p q : P) (old new : Still)
-    (f : Still × F) (m : M) → new ≡ old → q ≡ p
-    → ShowsBy old (fixed p) (state p) f m → ShowsBy new (fixed q) (state q) f m
-shows-stays fixed state p q old new f m same is s = record {
+pub shows-stays : {P F M : Type 0} (fixed : P → F) (state : P → M) (p q : P)
+    (name left_name : GName) (old new : Still) (f : Still × (F × GName)) (m : M) → new ≡ old
+    → q ≡ p → left_name ≡ name
+    → ShowsBy old (fixed p, name) (state p) f m → ShowsBy new (fixed q, left_name) (state q) f m
+shows-stays fixed state p q name left_name old new f m same is named s = record {
   still = same ∙ s.still;
-  fixed_is = ap fixed is ∙ s.fixed_is;
+  fixed_is = ap (λ x. (fixed x, left_name)) is ∙ ap (λ x. (fixed p, x)) named ∙ s.fixed_is;
   state_is = ap state is ∙ s.state_is;
 }
 
 pub shows-known : {P F M : Type 0} (fixed : P → F) (state : P → M)
-    (pages : P → List (Option (List ℕ))) (p q : P) (old new : Still) (shown left : List Slot)
-    (compared left_compared : List Bool) (f : (Still × F) × List (Option (List ℕ))) (m : M)
-    → new ≡ old → q ≡ p → KeepsRight shown compared (pages p) left left_compared (pages q)
-    → ShowsKnown old (fixed p) (state p) (pages p) shown compared f m
-    → ShowsKnown new (fixed q) (state q) (pages q) left left_compared f m
-shows-known fixed state pages p q old new shown left compared left_compared f m same is right s =
-    record {
-      shows = shows-stays fixed state p q old new f.0 m same is s.shows;
+    (pages : P → List (Option (List ℕ))) (p q : P) (name left_name : GName) (old new : Still)
+    (slots left : List Slot) (compared left_compared : List Bool)
+    (f : (Still × (F × GName)) × List (Option (List ℕ))) (m : M) → new ≡ old → q ≡ p
+    → left_name ≡ name → KeepsRight slots compared (pages p) left left_compared (pages q)
+    → ShowsKnown old (fixed p, name) (state p) (pages p) slots compared f m
+    → ShowsKnown new (fixed q, left_name) (state q) (pages q) left left_compared f m
+shows-known fixed state pages p q name left_name old new slots left compared left_compared f m same
+    is named right s = record {
+      shows = shows-stays fixed state p q name left_name old new f.0 m same is named s.shows;
       right = right f.1 s.right;
     }
 
 -- and a memory with pages of code of which more is known
 pub shows-learnt : {P F M : Type 0} (fixed : P → F) (state : P → M)
-    (pages : P → List (Option (List ℕ))) (p q : P) (old new : Still) (shown left : List Slot)
-    (compared left_compared : List Bool) (f : Still × F) (known more : List (Option (List ℕ)))
-    (m : M) → new ≡ old → q ≡ p
-    → (AreRight shown compared (pages p) known → AreRight left left_compared (pages q) more)
-    → ShowsKnown old (fixed p) (state p) (pages p) shown compared (f, known) m
-    → ShowsKnown new (fixed q) (state q) (pages q) left left_compared (f, more) m
-shows-learnt fixed state pages p q old new shown left compared left_compared f known more m same is
-    right s = record {
-      shows = shows-stays fixed state p q old new f m same is s.shows;
+    (pages : P → List (Option (List ℕ))) (p q : P) (name left_name : GName) (old new : Still)
+    (slots left : List Slot) (compared left_compared : List Bool) (f : Still × (F × GName))
+    (known more : List (Option (List ℕ))) (m : M) → new ≡ old → q ≡ p → left_name ≡ name
+    → (AreRight slots compared (pages p) known → AreRight left left_compared (pages q) more)
+    → ShowsKnown old (fixed p, name) (state p) (pages p) slots compared (f, known) m
+    → ShowsKnown new (fixed q, left_name) (state q) (pages q) left left_compared (f, more) m
+shows-learnt fixed state pages p q name left_name old new slots left compared left_compared f known
+    more m same is named right s = record {
+      shows = shows-stays fixed state p q name left_name old new f m same is named s.shows;
       right = right s.right;
     }
 

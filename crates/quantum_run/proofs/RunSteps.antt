@@ -119,15 +119,3 @@ module _ {M : Type 0} (answers : MemoryAnswers M) (r0 : Registers) (m : M) where
     shown = shows reached.now reached.shown;
     ran = reached.ran;
   }
-
-  pub goes-shown : (before after : M → Type 0) (r : Registers) (made : ℕ)
-      (stop : Option Reason) → ((u : M) → before u → after u)
-      → Goes answers before r0 m r made stop → Goes answers after r0 m r made stop
-  goes-shown before after r made stop shows goes = record {
-    reaches = record {
-      now = goes.reaches.now;
-      shown = shows goes.reaches.now goes.reaches.shown;
-      ran = goes.reaches.ran;
-    };
-    stops = goes.stops;
-  }

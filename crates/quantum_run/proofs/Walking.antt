@@ -27,7 +27,7 @@ use Rattle.code_pages.proofs.KnownLaws.{IsNextLine, line-of-start, live-line, ne
 use Rattle.page_store.specs.declared.compared.Slot.{Slot}
 use Rattle.quantum_run.specs.Finding.{AreFramesOf, page_start}
 use Rattle.quantum_run.specs.Flying.{DoneOrNot, IsLineOf}
-use Rattle.quantum_run.specs.Knowing.{IsLineFor, block_place, code_place, empty_slot}
+use Rattle.quantum_run.specs.Knowing.{AreAmong, IsLineFor, block_place, code_place, empty_slot}
 use Rattle.quantum_run.specs.Knowing.{slot_of}
 use Rattle.quantum_run.specs.Answering.{Places, Still, run_answers}
 use Rattle.quantum_run.specs.Showing.{ShowsKnown, answers_of}
@@ -197,19 +197,19 @@ goes-behind shown compared known lines base address (suc n) line next some of is
 
 -- the code of a line that isn't stale is the one that is fetched
 pub fetched : {F M : Type 0} (places : F → Places M) (now : Still) (fixed : F) (state : M)
-    (pages : List (Option (List ℕ))) (shown : List Slot) (compared : List Bool) (known : Known)
-    (lines : List Line) (base address n : ℕ) (line : Line) (f : Still × F) (m : M)
+    (pages : List (Option (List ℕ))) (slots shown : List Slot) (compared : List Bool)
+    (known : Known) (lines : List Line) (base address n : ℕ) (line : Line) (f : Still × F) (m : M)
     → (places fixed).bytes state ≡ joined pages
-    → AreFramesOf now.thread now.owners now.entries Fetch shown
+    → AreFramesOf now.thread now.owners now.entries Fetch shown → AreAmong slots shown
     → IsLineOf shown compared known lines base address (suc n)
     → slice_get lines (suc n) ≡ Some line → 0 < line.size
-    → ShowsKnown now fixed state pages shown compared (f, bytes_of_pages known) m
+    → ShowsKnown now fixed state pages slots compared (f, bytes_of_pages known) m
     → (code : ℕ) × IsFormOf code line.form
     × (word_in (run_answers f.0 (places f.1)) m address ≡ Ok code)
-fetched places now fixed state pages shown compared known lines base address n line f m bytes_are
-    frames of is live shows =
-    let here = line-word places now fixed state pages shown compared f known m address (suc n) line
-    shows bytes_are frames of.pages of.line (omega arith) of.even of.small
+fetched places now fixed state pages slots shown compared known lines base address n line f m
+    bytes_are frames kept of is live shows =
+    let here = line-word places now fixed state pages slots shown compared f known m address (suc n)
+    line kept shows bytes_are frames of.pages of.line (omega arith) of.even of.small
     (ap (λ (xs : List Line). slice_get xs (suc n)) of.lines_are ∙ is) live in
     (here.is.code, here.is.form, here.word)
 
@@ -238,17 +238,12 @@ pub not-left : {A : Type 0} (n : ℕ) → (n ≡ 0) ⊎ A → (n ≡ 0 → ⊥) 
 not-left n (inl none) other = absurd (other none)
 not-left n (inr a) other = a
 
-got-true : (xs : List Bool) (i : ℕ) → get_or xs i false ≡ true → slice_get xs i ≡ Some true
-got-true [] i is = cc
-got-true (x ∷ xs) zero is = ap Some is
-got-true (x ∷ xs) (suc i) is = got-true xs i is
-
 -- the line that begins at an offset of a page whose block there has been compared
 pub lands : (shown : List Slot) (compared : List Bool) (known : Known) (lines : List Line)
     (base to at block place : ℕ) → lines ≡ known.lines → AreKnownPages known
     → (slot_of shown base).start ≡ base → base % 4096 ≡ 0 → to < 4096 → to % 2 ≡ 0
     → base < 2 ^ 32 → block ≡ base / 4096 % 64
-    → get_or compared (16 * block + to / 256) false ≡ true
+    → slice_get compared (16 * block + to / 256) ≡ Some true
     → place ≡ code_place base → IsStartIn known place to at
     → IsLineOf shown compared known lines base ((base + to) % 2 ^ 32) at
 lands shown compared known lines base to at block place are pages found whole inside even small slot
@@ -270,7 +265,7 @@ lands shown compared known lines base to at block place are pages found whole in
         compared_is = record {
           found = ap (λ k. (slice_index_or shown (k % 64) empty_slot).start) number ∙ found
               ∙ sym page;
-          is = ap (λ k. slice_get compared k) there ∙ got-true compared (16 * block + to / 256) is;
+          is = ap (λ k. slice_get compared k) there ∙ is;
         };
         start = record {
           page = begun.page;
@@ -295,23 +290,21 @@ placed shown compared known lines base address (suc n) some of =
     )
 
 pub fetched-at : {F M : Type 0} (places : F → Places M) (now : Still) (fixed : F) (state : M)
-    (pages : List (Option (List ℕ))) (shown : List Slot) (compared : List Bool) (known : Known)
-    (lines : List Line) (base address at : ℕ) (line : Line) (f : Still × F) (m : M) → 0 < at
-    → (places fixed).bytes state ≡ joined pages
-    → AreFramesOf now.thread now.owners now.entries Fetch shown
+    (pages : List (Option (List ℕ))) (slots shown : List Slot) (compared : List Bool)
+    (known : Known) (lines : List Line) (base address at : ℕ) (line : Line) (f : Still × F) (m : M)
+    → 0 < at → (places fixed).bytes state ≡ joined pages
+    → AreFramesOf now.thread now.owners now.entries Fetch shown → AreAmong slots shown
     → IsLineOf shown compared known lines base address at
     → slice_get lines at ≡ Some line → 0 < line.size
-    → ShowsKnown now fixed state pages shown compared (f, bytes_of_pages known) m
+    → ShowsKnown now fixed state pages slots compared (f, bytes_of_pages known) m
     → (code : ℕ) × IsFormOf code line.form
     × (word_in (run_answers f.0 (places f.1)) m address ≡ Ok code)
-fetched-at places now fixed state pages shown compared known lines base address zero line f m some
-    bytes_are frames of is live shows = absurd (omega (arith, some))
-fetched-at places now fixed state pages shown compared known lines base address (suc n) line f m
-    some
-    bytes_are frames of is live shows =
-    fetched places now fixed state pages shown compared known lines base address n line f m
-    bytes_are
-    frames of is live shows
+fetched-at places now fixed state pages slots shown compared known lines base address zero line f m
+    some bytes_are frames kept of is live shows = absurd (omega (arith, some))
+fetched-at places now fixed state pages slots shown compared known lines base address (suc n) line
+    f m some bytes_are frames kept of is live shows =
+    fetched places now fixed state pages slots shown compared known lines base address n line f m
+    bytes_are frames kept of is live shows
 
 -- the line at a place is the one that is got there
 pub got-line : (xs : List Line) (i : ℕ) (line other : Line) → slice_get xs i ≡ Some line
@@ -335,38 +328,38 @@ To≢Not target q = cc
 -- a run by the instruction of a line, which is done
 pub line-done : {F M : Type 0} (places : F → Places M) (now left : Still) (fixed after : F)
     (state left_state : M) (pages left_pages : List (Option (List ℕ)))
-    (shown left_shown first_shown : List Slot) (compared left_compared first_compared : List Bool)
+    (slots left_slots shown first_shown : List Slot)
+    (compared left_compared first_compared : List Bool)
     (known : Known) (lines : List Line) (base pc at : ℕ) (line : Line) (r r' : Registers)
     (next : Next) (made all : ℕ) → (places fixed).bytes state ≡ joined pages
-    → AreFramesOf now.thread now.owners now.entries Fetch shown
-    → DoneOrNot (answers_of places) (ShowsKnown now fixed state pages shown compared)
-    (ShowsKnown left after left_state left_pages left_shown left_compared) line.size pc r r' next
+    → AreFramesOf now.thread now.owners now.entries Fetch shown → AreAmong slots shown
+    → DoneOrNot (answers_of places) (ShowsKnown now fixed state pages slots compared)
+    (ShowsKnown left after left_state left_pages left_slots left_compared) line.size pc r r' next
     (effect_of_form line.form)
     → next ≢ Not → 0 < at → slice_get lines at ≡ Some line → 0 < line.size → shown ≡ first_shown
     → compared ≡ first_compared → all ≡ made + 1 → (f : Still × F) (r0 : Registers) (m : M)
     → IsLineOf first_shown first_compared known lines base pc at
-    → Reaches (run_answers f.0 (places f.1)) (ShowsKnown now fixed state pages shown compared
+    → Reaches (run_answers f.0 (places f.1)) (ShowsKnown now fixed state pages slots compared
     (f, bytes_of_pages known)) r0 m (with_pc r pc) made
-    → Reaches (run_answers f.0 (places f.1)) (ShowsKnown left after left_state left_pages left_shown
+    → Reaches (run_answers f.0 (places f.1)) (ShowsKnown left after left_state left_pages left_slots
     left_compared (f, bytes_of_pages known)) r0 m (arrived_by line.size r' pc next) all
-line-done places now left fixed after state left_state pages left_pages shown left_shown first_shown
-    compared left_compared first_compared known lines base pc zero line r r' next made all bytes_are
-    frames done other some is live same_shown same_compared count f r0 m of reached =
-    absurd (omega (arith, some))
-line-done {F} {M} places now left fixed after state left_state pages left_pages shown left_shown
-    first_shown compared left_compared first_compared known lines base pc (suc n) line r r' next
-    made
-    all bytes_are frames done other some is live same_shown same_compared count f r0 m of reached =
-    by_next next other done
+line-done places now left fixed after state left_state pages left_pages slots left_slots shown
+    first_shown compared left_compared first_compared known lines base pc zero line r r' next made
+    all bytes_are frames kept done other some is live same_shown same_compared count f r0 m of
+    reached = absurd (omega (arith, some))
+line-done {F} {M} places now left fixed after state left_state pages left_pages slots left_slots
+    shown first_shown compared left_compared first_compared known lines base pc (suc n) line r r'
+    next made all bytes_are frames kept done other some is live same_shown same_compared count f r0
+    m of reached = by_next next other done
   where
     answers : MemoryAnswers M
     answers = run_answers f.0 (places f.1)
 
     before : M → Type 0
-    before = ShowsKnown now fixed state pages shown compared (f, bytes_of_pages known)
+    before = ShowsKnown now fixed state pages slots compared (f, bytes_of_pages known)
 
     then : M → Type 0
-    then = ShowsKnown left after left_state left_pages left_shown left_compared
+    then = ShowsKnown left after left_state left_pages left_slots left_compared
         (f, bytes_of_pages known)
 
     here : IsLineOf shown compared known lines base pc (suc n)
@@ -379,14 +372,14 @@ line-done {F} {M} places now left fixed after state left_state pages left_pages 
         (effect_in answers u (effect_of_form line.form (with_pc r pc))))
         → Reaches answers then r0 m to all
     go to does = reaches-more answers r0 m before then (with_pc r pc) to made all count
-        (λ u shows. let found = fetched places now fixed state pages shown compared known lines base
-        pc n line f u bytes_are frames here is live shows in
+        (λ u shows. let found = fetched places now fixed state pages slots shown compared known
+        lines base pc n line f u bytes_are frames kept here is live shows in
         one-by-form answers then pc r to line.form u found.0 found.1 found.2 (does u shows))
         reached
 
     by_next : (k : Next) → k ≢ Not
-        → DoneOrNot (answers_of places) (ShowsKnown now fixed state pages shown compared)
-        (ShowsKnown left after left_state left_pages left_shown left_compared) line.size pc r r' k
+        → DoneOrNot (answers_of places) (ShowsKnown now fixed state pages slots compared)
+        (ShowsKnown left after left_state left_pages left_slots left_compared) line.size pc r r' k
         (effect_of_form line.form)
         → Reaches answers then r0 m (arrived_by line.size r' pc k) all
     by_next On q d =

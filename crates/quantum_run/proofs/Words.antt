@@ -21,8 +21,9 @@ use Rattle.rv_exec.specs.Follows.{word_in}
 use Rattle.quantum_run.specs.Answering.{Places, Still, run_answers}
 use Rattle.page_store.specs.declared.compared.Slot.{Slot}
 use Rattle.quantum_run.specs.Finding.{AreFramesOf, page_start}
-use Rattle.quantum_run.specs.Knowing.{AreSameAround, IsLineFor}
+use Rattle.quantum_run.specs.Knowing.{AreAmong, AreSameAround, IsLineFor}
 use Rattle.quantum_run.specs.Knowing.{code_place, empty_slot, slot_of}
+use Rattle.quantum_run.proofs.Comparing.{keeps-among}
 use Rattle.quantum_run.specs.Showing.{ShowsKnown}
 use Rattle.quantum_run.proofs.Comparing.{slot-there}
 use Rattle.quantum_run.proofs.Places.{read-there}
@@ -155,18 +156,20 @@ line-stands known place offset (suc k) are even some start =
 -- At an address whose block has been compared the code of its line is fetched, unless that is
 -- stale.
 pub line-word : {F M : Type 0} (places : F → Places M) (now : Still) (fixed_now : F) (state : M)
-    (pages : List (Option (List ℕ))) (shown : List Slot) (compared : List Bool) (f : Still × F)
-    (known : Known) (m : M) (address at : ℕ) (line : Line)
-    → ShowsKnown now fixed_now state pages shown compared (f, bytes_of_pages known) m
+    (pages : List (Option (List ℕ))) (slots shown : List Slot) (compared : List Bool)
+    (f : Still × F) (known : Known) (m : M) (address at : ℕ) (line : Line) → AreAmong slots shown
+    → ShowsKnown now fixed_now state pages slots compared (f, bytes_of_pages known) m
     → (places fixed_now).bytes state ≡ joined pages
     → AreFramesOf now.thread now.owners now.entries Fetch shown → AreKnownPages known
     → IsLineFor shown compared known address at → 0 < at → address % 2 ≡ 0 → address < 2 ^ 32
     → slice_get known.lines at ≡ Some line → 0 < line.size
     → StandsThere known (run_answers f.0 (places f.1)) m address at line
-line-word {F} {M} places now fixed_now state pages shown compared f known m address at line s
+line-word {F} {M} places now fixed_now state pages slots shown compared f known m address at line
+    kept s
     bytes_are
     frames are for some even fits there live =
-    let right = s.right address fits for.compared_is in
+    let right = keeps-among slots shown compared pages kept (bytes_of_pages known) s.right address
+    fits for.compared_is in
     let start = for.start in
     let offset : ℕ = address % 4096 in
     let two : offset % 2 ≡ 0 = omega (arith, even) in

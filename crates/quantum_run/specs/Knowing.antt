@@ -1,9 +1,10 @@
 -- Which pages of code are known, while a thread runs: those that a fetch has found, and of them the
 -- blocks of 256 bytes that have been compared, as page_store says it. This project's own rules.
-use Rattle.std.specs.Prelude.{ℕ, ◌≡◌, ◌≢◌, ◌⊎◌, ◌<◌, ◌/◌, ◌%◌, Bool, true, List}
-use Rattle.std.specs.Prelude.{All, Option, Some, false, slice_get, slice_index_or}
+use Rattle.std.specs.Prelude.{ℕ, ◌≡◌, ◌⊎◌, ◌<◌, ◌%◌, Bool, true, List}
+use Rattle.std.specs.Prelude.{All, Option, false, slice_index_or}
 use Rattle.code_pages.specs.Lines.{IsStartIn, Known}
-pub use Rattle.page_store.specs.Compared.{AreRight, AreSameAround, IsCompared, IsRightAt}
+pub use Rattle.page_store.specs.Compared.{AreFewer, AreRight, AreSameAround, IsCompared, IsNoCode}
+pub use Rattle.page_store.specs.Compared.{IsRightAt, IsUncompared}
 pub use Rattle.page_store.specs.Compared.{block_place, code_place, empty_slot, slot_of}
 use Rattle.page_store.specs.Compared.{no_start}
 use Rattle.page_store.specs.declared.compared.Slot.{Slot}
@@ -15,19 +16,15 @@ KeepsRight shown compared pages new_shown new_compared new_pages =
     (known : List (Option (List ℕ))) → AreRight shown compared pages known
     → AreRight new_shown new_compared new_pages known
 
--- No fetch has found this frame.
-abbrev pub IsNoCode : List Slot → ℕ → Type 0
-IsNoCode shown frame = All (λ slot. slot.start < no_start → slot.frame ≢ frame) shown
-
 -- Each frame of a slot has its mark set, of 64.
 abbrev pub SlotsAreMarked : List Slot → (marks : List Bool) → Type 0
 SlotsAreMarked slots marks =
     All (λ slot. slot.start < no_start → slice_index_or marks (slot.frame % 64) false ≡ true) slots
 
--- No frame that a fetch has found is found again for stores without a search.
-abbrev pub FetchesAreApart : (shown stored : List Slot) → Type 0
-FetchesAreApart shown stored =
-    All (λ slot. slot.start < no_start → IsNoCode shown slot.frame) stored
+-- No frame of which code was compared is found again for stores without a search.
+abbrev pub FetchesAreApart : (slots stored : List Slot) → Type 0
+FetchesAreApart slots stored =
+    All (λ slot. slot.start < no_start → IsNoCode slots slot.frame) stored
 
 -- The line of the code at an even address, whose block has been compared.
 pub record IsLineFor (shown : List Slot) (compared : List Bool) (known : Known) (address at : ℕ)
@@ -35,13 +32,10 @@ pub record IsLineFor (shown : List Slot) (compared : List Bool) (known : Known) 
   pub compared_is : IsCompared shown compared address
   pub start : IsStartIn known (code_place address) (address % 4096) at
 
--- No block of this slot has been compared.
-abbrev pub IsUncompared : List Bool → (place : ℕ) → Type 0
-IsUncompared compared place = (at : ℕ) → at / 16 ≡ place → slice_get compared at ≢ Some true
-
--- No block has been compared that hadn't been.
-abbrev pub AreFewer : (old new : List Bool) → Type 0
-AreFewer old new = (at : ℕ) → slice_get new at ≡ Some true → slice_get old at ≡ Some true
+-- What a fetch has found in a part is among what was found, in the same slot.
+abbrev pub AreAmong : (slots shown : List Slot) → Type 0
+AreAmong slots shown = (at : ℕ) → (slice_index_or shown at empty_slot).start < no_start
+    → slice_index_or shown at empty_slot ≡ slice_index_or slots at empty_slot
 
 -- Each slot is the same, or has found nothing any more.
 abbrev pub AreHidden : (old new : List Slot) → Type 0

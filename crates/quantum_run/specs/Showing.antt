@@ -1,5 +1,6 @@
 -- What the memory of a thread that runs shows. This project's own rules.
 use Rattle.std.specs.Prelude.{ℕ, ◌≡◌, Bool, true, false, List, Option, Result, Ok}
+use Rattle.std.specs.Borrow.{GName}
 use Rattle.dos_world.specs.declared.Reason.{Reason}
 use Rattle.flat_machine.specs.Over.{MemoryAnswers}
 use Rattle.page_store.specs.declared.compared.Slot.{Slot}
@@ -20,6 +21,10 @@ pub record ShowsKnown {F M : Type 0} (now : Still) (fixed_now : F) (state : M)
     (fixed : (Still × F) × List (Option (List ℕ))) (m : M) : Type 0 where
   pub shows : ShowsBy now fixed_now state fixed.0 m
   pub right : AreRight shown compared pages fixed.1
+
+-- the places by what stays, beside the name of the borrow of what was compared
+abbrev pub beside_name : {F M : Type 0} → (F → Places M) → F × GName → Places M
+beside_name places fixed = places fixed.0
 
 -- what is answered at these places, by what stands still and what the pages keep
 abbrev pub answers_of : {F M K : Type 0} → (F → Places M) → (Still × F) × K

@@ -1,7 +1,11 @@
 // The frames as a phase began, and the words that a thread has written over them.
-ghost use Rattle.std.specs.Prelude.{◌≡◌, ◌+◌, ◌*◌, ◌^◌, ◌<◌, ◌≤◌, take, drop};
-ghost use Rattle.dos_world.specs.Reach.{width};
+ghost use Rattle.std.specs.Prelude.{◌≡◌, ◌+◌, ◌*◌, ◌%◌, ◌^◌, ◌<◌, ◌≤◌, ℕ, List, Some, None, true};
+ghost use Rattle.std.specs.Prelude.{false, if◌then◌else◌, take, drop};
+ghost use Rattle.dos_world.specs.Reach.{bytes_of, width, written};
+ghost use Rattle.dos_world.specs.declared.Size.TheVariants.{Word};
 ghost use Rattle.page_store.specs.Store.{AreHome, joined, number_at};
+ghost use Rattle.written_words.specs.Words.{with_stored, words_put};
+ghost use Rattle.quantum_run.specs.Buffering.{pages_read};
 ghost use Rattle.quantum_run.specs.Pages.{IsPageHere};
 
 use crate::pages::Pages;
@@ -44,6 +48,146 @@ fn window(frames: &Frames, frame: u32, offset: u32) -> [u8; 4]
     let bytes = frames.lend(frame).bytes();
     let at = offset as usize;
     [bytes[at], bytes[at + 1], bytes[at + 2], bytes[at + 3]]
+}
+
+// the same as the words' own, of a byte or a half or any; out of the loop, as the next two are,
+// so that the loop's own values stay in registers
+#[inline(never)]
+fn store_part(words: &mut WrittenWords, frame: u32, offset: u32, size: Size, value: u32) -> bool
+    requires within { offset < 4096 }
+    requires aligned { offset % width size ≡ 0 }
+    ensures words { with_stored words.old frame offset (bytes_of (width size) value)
+        ≡ (if result then Some words.new else None) }
+    ensures put { result ≡ true → (bytes : List ℕ) → words_put bytes words.new
+        ≡ written (words_put bytes words.old) (4096 * frame + offset)
+        (bytes_of (width size) value) }
+    ensures same { result ≡ false → words.new ≡ words.old }
+{
+    words.store(frame, offset, size, value)
+}
+
+// the same of the word of this number in the frame
+#[inline(never)]
+fn store_new_word(words: &mut WrittenWords, frame: u32, number: u32, value: u32) -> bool
+    requires { number < 1024 }
+    ensures words { with_stored words.old frame (4 * number) (bytes_of 4 value)
+        ≡ (if result then Some words.new else None) }
+    ensures put { result ≡ true → (bytes : List ℕ) → words_put bytes words.new
+        ≡ written (words_put bytes words.old) (4096 * frame + 4 * number) (bytes_of 4 value) }
+    ensures same { result ≡ false → words.new ≡ words.old }
+{
+    words.store(frame, 4 * number, Size::Word, value)
+}
+
+// the same, at first sight where it is found so
+#[inline(never)]
+fn store_word(words: &mut WrittenWords, frame: u32, number: u32, value: u32) -> bool
+    requires { number < 1024 }
+    ensures words { with_stored words.old frame (4 * number) (bytes_of 4 value)
+        ≡ (if result then Some words.new else None) }
+    ensures put { result ≡ true → (bytes : List ℕ) → words_put bytes words.new
+        ≡ written (words_put bytes words.old) (4096 * frame + 4 * number) (bytes_of 4 value) }
+    ensures same { result ≡ false → words.new ≡ words.old }
+{
+    if words.store_again(frame, 4 * number, Size::Word, value) {
+        return true;
+    }
+    store_new_word(words, frame, number, value)
+}
+
+// the same of any size
+#[inline(always)]
+fn store(words: &mut WrittenWords, frame: u32, offset: u32, size: Size, value: u32) -> bool
+    requires within { offset < 4096 }
+    requires aligned { offset % width size ≡ 0 }
+    ensures words { with_stored words.old frame offset (bytes_of (width size) value)
+        ≡ (if result then Some words.new else None) }
+    ensures put { result ≡ true → (bytes : List ℕ) → words_put bytes words.new
+        ≡ written (words_put bytes words.old) (4096 * frame + offset)
+        (bytes_of (width size) value) }
+    ensures same { result ≡ false → words.new ≡ words.old }
+{
+    match size {
+        Size::Word => store_word(words, frame, offset / 4, value),
+        _ => store_part(words, frame, offset, size, value),
+    }
+}
+
+impl<'a> Buffered<'a> {
+    // the number at an aligned offset, by the words
+    #[inline(always)]
+    fn read_over(&self, frame: u32, offset: u32, size: Size) -> u32
+        requires home { IsPageHere (pages_read self.now.frames.now.pages self.now.words) frame }
+        requires within { offset + width size ≤ 4096 }
+        requires aligned { offset % width size ≡ 0 }
+        ensures value { result ≡ number_at
+            (joined (pages_read self.now.frames.now.pages self.now.words))
+            (4096 * frame + offset) size }
+        ensures range { result < 256 ^ width size }
+    {
+        let aligned = offset / 4 * 4;
+        let old = window(self.frames, frame, aligned);
+        let word = self.words.over(frame, aligned, old);
+        number_in(word, offset % 4, size)
+    }
+
+    // the same out of the loop
+    #[inline(never)]
+    fn read_part(&self, frame: u32, offset: u32, size: Size) -> u32
+        requires home { IsPageHere (pages_read self.now.frames.now.pages self.now.words) frame }
+        requires within { offset + width size ≤ 4096 }
+        requires aligned { offset % width size ≡ 0 }
+        ensures value { result ≡ number_at
+            (joined (pages_read self.now.frames.now.pages self.now.words))
+            (4096 * frame + offset) size }
+        ensures range { result < 256 ^ width size }
+    {
+        self.read_over(frame, offset, size)
+    }
+
+    // the word of this number in the frame
+    #[inline(never)]
+    fn read_other_word(&self, frame: u32, number: u32) -> u32
+        requires home { IsPageHere (pages_read self.now.frames.now.pages self.now.words) frame }
+        requires within { number < 1024 }
+        ensures { result ≡ number_at
+            (joined (pages_read self.now.frames.now.pages self.now.words))
+            (4096 * frame + 4 * number) Word }
+    {
+        self.read_over(frame, 4 * number, Size::Word)
+    }
+
+    // the same, at first sight where it is found so
+    #[inline(never)]
+    fn read_word(&self, frame: u32, number: u32) -> u32
+        requires home { IsPageHere (pages_read self.now.frames.now.pages self.now.words) frame }
+        requires within { number < 1024 }
+        ensures { result ≡ number_at
+            (joined (pages_read self.now.frames.now.pages self.now.words))
+            (4096 * frame + 4 * number) Word }
+    {
+        match self.words.whole(frame, 4 * number) {
+            Some(value) => value,
+            None => self.read_other_word(frame, number),
+        }
+    }
+
+    // the number at an aligned offset of a frame of which the thread may have written a word
+    #[inline(always)]
+    fn read_written(&self, frame: u32, offset: u32, size: Size) -> u32
+        requires home { IsPageHere (pages_read self.now.frames.now.pages self.now.words) frame }
+        requires within { offset + width size ≤ 4096 }
+        requires aligned { offset % width size ≡ 0 }
+        ensures value { result ≡ number_at
+            (joined (pages_read self.now.frames.now.pages self.now.words))
+            (4096 * frame + offset) size }
+        ensures range { result < 256 ^ width size }
+    {
+        match size {
+            Size::Word => self.read_word(frame, offset / 4),
+            _ => self.read_part(frame, offset, size),
+        }
+    }
 }
 
 impl<'a> Pages for Buffered<'a> {
@@ -92,12 +236,7 @@ impl<'a> Pages for Buffered<'a> {
     fn read(&self, frame: u32, offset: u32, size: Size) -> u32 {
         match self.page(frame) {
             Some(page) => page.read(offset, size),
-            None => {
-                let aligned = offset / 4 * 4;
-                let old = window(self.frames, frame, aligned);
-                let word = self.words.over(frame, aligned, old);
-                number_in(word, offset % 4, size)
-            }
+            None => self.read_written(frame, offset, size),
         }
     }
 
@@ -113,6 +252,6 @@ impl<'a> Pages for Buffered<'a> {
     // into the thread's words
     #[inline]
     fn write(&mut self, frame: u32, offset: u32, size: Size, value: u32) -> bool {
-        self.words.store(frame, offset, size, value)
+        store(&mut self.words, frame, offset, size, value)
     }
 }

@@ -2,11 +2,12 @@
 ghost use Rattle.std.specs.Prelude.{◌≡◌, ◌+◌, ◌-◌, ◌<◌, ◌≤◌, ◌/◌, ◌%◌, ◌^◌, ◌⊎◌, ◌==◌, ℕ};
 ghost use Rattle.std.specs.Prelude.{List, true};
 ghost use Rattle.std.specs.List.{list_any};
+ghost use Rattle.std.specs.Borrow.{GName};
 ghost use Rattle.dos_world.specs.World.{with_pc};
-ghost use Rattle.code_pages.specs.Lines.{AreKnownPages, bytes_of_pages};
+ghost use Rattle.code_pages.specs.Lines.{AreKnownPages, AreStartsOf, Known, bytes_of_pages};
 ghost use Rattle.quantum_run.specs.Finding.{page_start};
 ghost use Rattle.quantum_run.specs.Flying.{IsLineOf};
-ghost use Rattle.quantum_run.specs.Knowing.{slot_of};
+ghost use Rattle.quantum_run.specs.Knowing.{code_place, slot_of};
 ghost use Rattle.quantum_run.specs.Answering.{Still, run_answers, still};
 ghost use Rattle.quantum_run.specs.Showing.{ShowsKnown};
 ghost use Rattle.quantum_run.specs.ThreadRuns.{AreElsewhere, AreOutside, Reaches, ReachesIn};
@@ -16,7 +17,7 @@ use crate::lines::{follow, line_in, part_of_run};
 use crate::pages::Pages;
 use crate::slots::{code_place, slot_place};
 use crate::thread_memory::Running;
-use code_pages::CodePages;
+use code_pages::{CodePages, line_from};
 use dos_world::Regs;
 
 /// Where instructions led, what is left of the budget, and the line there, which needs a search or
@@ -45,22 +46,23 @@ fn is_place(to: u32) -> bool
     to < 4096 && to % 2 == 0
 }
 
-/// The line to land at, of the code at an offset of a page that a fetch has found: 0 where its
-/// block hasn't been compared, or where it isn't known.
+/// The line to land at, of the code at an offset of a page that a fetch has found and of which this
+/// is where its lines begin: 0 where its block hasn't been compared, or where it isn't known.
 #[inline(always)]
-fn landing<P: Pages>(memory: &Running<'_, P>, code: &CodePages, base: u32, to: u32) -> usize
-    requires known { AreKnownPages code.now }
+fn landing<P: Pages>(memory: &Running<'_, P>, starts: &[u16; 2048], base: u32, to: u32) -> usize
     requires found { (slot_of memory.now.shown base).start ≡ base }
     requires base { base % 4096 ≡ 0 }
     requires inside { to < 4096 }
     requires even { to % 2 ≡ 0 }
-    ensures { (result ≡ 0) ⊎ IsLineOf memory.now.shown memory.now.compared code.now code.now.lines
+    ensures { (code : Known) → AreKnownPages code → AreStartsOf code (code_place base) starts.now
+        → (result ≡ 0) ⊎ IsLineOf memory.now.shown memory.now.compared.now.blocks code code.lines
         base ((base + to) % 2 ^ 32) result }
 {
-    if !memory.compared[16 * slot_place(base) + (to / 256) as usize] {
+    let block = 16 * slot_place(base) + (to / 256) as usize;
+    if !memory.compared.is_compared(block) {
         return 0;
     }
-    code.line_at(code_place(base), to)
+    line_from(starts, to)
 }
 
 /// Instructions by the lines of one page, as many as are known and need no search, where a fetch
@@ -73,18 +75,22 @@ fn fly_in_page<P: Pages, E: Extent>(
     pc: u32,
     budget: u32,
 ) -> Leg
-    ensures reaches { (f : Still × P.Fixed) (m : P.State) → ShowsKnown
+    ensures reaches { (f : Still × (P.Fixed × GName)) (m : P.State) → ShowsKnown
         (still memory.old.tid (P.owners memory.old.pages) memory.old.space.now.entries)
-        (P.fixed memory.old.pages) (P.state memory.old.pages) (P.pages memory.old.pages)
-        memory.old.shown memory.old.compared (f, bytes_of_pages code.now) m
-        → ReachesIn (page_start pc) (run_answers f.0 (P.places f.1)) (ShowsKnown
+        (P.fixed memory.old.pages, memory.old.compared.ghost_name) (P.state memory.old.pages)
+        (P.pages memory.old.pages)
+        memory.old.compared.now.slots memory.old.compared.now.blocks (f, bytes_of_pages code.now) m
+        → ReachesIn (page_start pc) (run_answers f.0 (P.places f.1.0)) (ShowsKnown
         (still memory.new.tid (P.owners memory.new.pages) memory.new.space.now.entries)
-        (P.fixed memory.new.pages) (P.state memory.new.pages) (P.pages memory.new.pages)
-        memory.new.shown memory.new.compared (f, bytes_of_pages code.now)) (with_pc regs.old pc) m
+        (P.fixed memory.new.pages, memory.new.compared.ghost_name) (P.state memory.new.pages)
+        (P.pages memory.new.pages)
+        memory.new.compared.now.slots memory.new.compared.now.blocks (f, bytes_of_pages code.now))
+        (with_pc regs.old pc) m
         (with_pc regs.new result.pc) (budget - result.left) }
     ensures within { result.left ≤ budget }
     ensures on { result.goes_on ≡ true → result.left < budget }
-    ensures line { (result.at ≡ 0) ⊎ IsLineOf memory.new.shown memory.new.compared code.now
+    ensures line { (result.at ≡ 0) ⊎ IsLineOf memory.new.shown memory.new.compared.now.blocks
+        code.now
         code.now.lines (page_start result.pc) result.pc result.at }
 {
     if !memory.is_shown_at(pc) {
@@ -95,12 +101,20 @@ fn fly_in_page<P: Pages, E: Extent>(
             at: 0,
         };
     }
-    let lines = code.lines();
     let base = pc / 4096 * 4096;
+    let Some(starts) = code.starts(code_place(base)) else {
+        return Leg {
+            pc,
+            left: budget,
+            goes_on: false,
+            at: 0,
+        };
+    };
+    let lines = code.lines();
     let mut to = pc % 4096;
     let mut left = budget;
     loop {
-        let at = landing(memory, code, base, to);
+        let at = landing(memory, starts, base, to);
         if at == 0 {
             return Leg {
                 pc: base.wrapping_add(to),
@@ -157,17 +171,21 @@ pub fn fly<P: Pages>(
     pc: u32,
     budget: u32,
 ) -> Flown
-    ensures reaches { (f : Still × P.Fixed) (m : P.State) → ShowsKnown
+    ensures reaches { (f : Still × (P.Fixed × GName)) (m : P.State) → ShowsKnown
         (still memory.old.tid (P.owners memory.old.pages) memory.old.space.now.entries)
-        (P.fixed memory.old.pages) (P.state memory.old.pages) (P.pages memory.old.pages)
-        memory.old.shown memory.old.compared (f, bytes_of_pages code.now) m
-        → Reaches (run_answers f.0 (P.places f.1)) (ShowsKnown
+        (P.fixed memory.old.pages, memory.old.compared.ghost_name) (P.state memory.old.pages)
+        (P.pages memory.old.pages)
+        memory.old.compared.now.slots memory.old.compared.now.blocks (f, bytes_of_pages code.now) m
+        → Reaches (run_answers f.0 (P.places f.1.0)) (ShowsKnown
         (still memory.new.tid (P.owners memory.new.pages) memory.new.space.now.entries)
-        (P.fixed memory.new.pages) (P.state memory.new.pages) (P.pages memory.new.pages)
-        memory.new.shown memory.new.compared (f, bytes_of_pages code.now)) (with_pc regs.old pc) m
+        (P.fixed memory.new.pages, memory.new.compared.ghost_name) (P.state memory.new.pages)
+        (P.pages memory.new.pages)
+        memory.new.compared.now.slots memory.new.compared.now.blocks (f, bytes_of_pages code.now))
+        (with_pc regs.old pc) m
         (with_pc regs.new result.pc) (budget - result.left) }
     ensures within { result.left ≤ budget }
-    ensures line { (result.at ≡ 0) ⊎ IsLineOf memory.new.shown memory.new.compared code.now
+    ensures line { (result.at ≡ 0) ⊎ IsLineOf memory.new.shown memory.new.compared.now.blocks
+        code.now
         code.now.lines (page_start result.pc) result.pc result.at }
 {
     let mut pc = pc;
@@ -204,20 +222,24 @@ pub fn fly_between<P: Pages>(
     budget: u32,
     stops: &[u32],
 ) -> Flown
-    ensures reaches { (f : Still × P.Fixed) (m : P.State) → ShowsKnown
+    ensures reaches { (f : Still × (P.Fixed × GName)) (m : P.State) → ShowsKnown
         (still memory.old.tid (P.owners memory.old.pages) memory.old.space.now.entries)
-        (P.fixed memory.old.pages) (P.state memory.old.pages) (P.pages memory.old.pages)
-        memory.old.shown memory.old.compared (f, bytes_of_pages code.now) m
-        → Reaches (run_answers f.0 (P.places f.1)) (ShowsKnown
+        (P.fixed memory.old.pages, memory.old.compared.ghost_name) (P.state memory.old.pages)
+        (P.pages memory.old.pages)
+        memory.old.compared.now.slots memory.old.compared.now.blocks (f, bytes_of_pages code.now) m
+        → Reaches (run_answers f.0 (P.places f.1.0)) (ShowsKnown
         (still memory.new.tid (P.owners memory.new.pages) memory.new.space.now.entries)
-        (P.fixed memory.new.pages) (P.state memory.new.pages) (P.pages memory.new.pages)
-        memory.new.shown memory.new.compared (f, bytes_of_pages code.now)) (with_pc regs.old pc) m
+        (P.fixed memory.new.pages, memory.new.compared.ghost_name) (P.state memory.new.pages)
+        (P.pages memory.new.pages)
+        memory.new.compared.now.slots memory.new.compared.now.blocks (f, bytes_of_pages code.now))
+        (with_pc regs.old pc) m
         (with_pc regs.new result.pc) (budget - result.left) }
-    ensures elsewhere { (f : Still × P.Fixed) (m : P.State) → ShowsKnown
+    ensures elsewhere { (f : Still × (P.Fixed × GName)) (m : P.State) → ShowsKnown
         (still memory.old.tid (P.owners memory.old.pages) memory.old.space.now.entries)
-        (P.fixed memory.old.pages) (P.state memory.old.pages) (P.pages memory.old.pages)
-        memory.old.shown memory.old.compared (f, bytes_of_pages code.now) m
-        → AreElsewhere (run_answers f.0 (P.places f.1)) stops.now (budget - result.left)
+        (P.fixed memory.old.pages, memory.old.compared.ghost_name) (P.state memory.old.pages)
+        (P.pages memory.old.pages)
+        memory.old.compared.now.slots memory.old.compared.now.blocks (f, bytes_of_pages code.now) m
+        → AreElsewhere (run_answers f.0 (P.places f.1.0)) stops.now (budget - result.left)
         (with_pc regs.old pc) m }
     ensures within { result.left ≤ budget }
 {

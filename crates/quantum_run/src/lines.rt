@@ -1,6 +1,7 @@
 // Instructions of a page of code, by the lines that are known of it.
 ghost use Rattle.std.specs.Prelude.{◌≡◌, ◌≢◌, ◌+◌, ◌-◌, ◌<◌, ◌≤◌, ◌%◌, ◌^◌, ℕ, Bool, List, Option};
 ghost use Rattle.std.specs.Prelude.{Some, false, length, slice_get, true};
+ghost use Rattle.std.specs.Borrow.{GName};
 ghost use Rattle.dos_world.specs.World.{Registers, get, set, with_pc};
 ghost use Rattle.dos_world.specs.declared.Reason.{Reason};
 ghost use Rattle.rv_isa.specs.declared.Instr.{Instr};
@@ -17,7 +18,7 @@ ghost use Rattle.code_pages.specs.Lines.{AreRuns, Known, bytes_of_pages};
 ghost use Rattle.code_pages.specs.declared.line.Line.{Line as line_type};
 ghost use Rattle.quantum_run.specs.Flying.{DoneOrNot, HasLine, IsLineOf, IsRunWithin};
 ghost use Rattle.quantum_run.specs.Answering.{Still, run_answers, still};
-ghost use Rattle.quantum_run.specs.Showing.{ShowsKnown, answers_of};
+ghost use Rattle.quantum_run.specs.Showing.{ShowsKnown, answers_of, beside_name};
 ghost use Rattle.quantum_run.specs.ThreadRuns.{ReachesIn};
 
 use crate::extent::{Extent, Part};
@@ -25,9 +26,9 @@ use crate::pages::Pages;
 use crate::thread_memory::Running;
 use code_pages::{Kind, Line};
 use dos_world::Regs;
-use rv_exec::Next;
 use rv_exec::numbers::{load_result, load_size, store_size};
 use rv_exec::on_registers::{auipc, first, immediate, lui, put, register, second, shift};
+use rv_exec::{Next, nonzero};
 use rv_form::{Form, Op};
 use rv_isa::{ImmOp, LoadOp, RegOp, ShiftOp, StoreOp};
 
@@ -39,25 +40,47 @@ fn address_of(regs: &Regs, form: &Form) -> u32
     first(regs, form).wrapping_add_signed(form.imm)
 }
 
+/// A value for the register that is written, without a test for x0 where it is known not to be x0.
+#[inline(always)]
+fn write(regs: &mut Regs, form: &Form, value: u32, nonzero: bool)
+    requires { nonzero ≡ true → form.now.rd ≢ 0 }
+    ensures { (p : ℕ) → with_pc regs.new p ≡ set (with_pc regs.old p) form.now.rd value }
+{
+    if nonzero {
+        nonzero::put(regs, form, value);
+    } else {
+        put(regs, form, value);
+    }
+}
+
 /// A load that finds its page without a search; nothing is done where it doesn't.
 #[inline(always)]
 #[tactic(auto, unfolding(flat_machine::specs::Effect::effect))]
-fn load_quickly<P: Pages>(regs: &mut Regs, memory: &Running<'_, P>, form: &Form, op: LoadOp) -> Next
-    ensures { (size pc : ℕ) → DoneOrNot (answers_of P.places) (ShowsKnown
+fn load_quickly<P: Pages>(
+    regs: &mut Regs,
+    memory: &Running<'_, P>,
+    form: &Form,
+    op: LoadOp,
+    nonzero: bool,
+) -> Next
+    requires { nonzero ≡ true → form.now.rd ≢ 0 }
+    ensures { (size pc : ℕ) → DoneOrNot (answers_of (beside_name P.places)) (ShowsKnown
         (still memory.now.tid (P.owners memory.now.pages) memory.now.space.now.entries)
-        (P.fixed memory.now.pages) (P.state memory.now.pages) (P.pages memory.now.pages)
-        memory.now.shown memory.now.compared)
+        (P.fixed memory.now.pages, memory.now.compared.ghost_name) (P.state memory.now.pages)
+        (P.pages memory.now.pages)
+        memory.now.compared.now.slots memory.now.compared.now.blocks)
         (ShowsKnown
         (still memory.now.tid (P.owners memory.now.pages) memory.now.space.now.entries)
-        (P.fixed memory.now.pages) (P.state memory.now.pages) (P.pages memory.now.pages)
-        memory.now.shown memory.now.compared)
+        (P.fixed memory.now.pages, memory.now.compared.ghost_name) (P.state memory.now.pages)
+        (P.pages memory.now.pages)
+        memory.now.compared.now.slots memory.now.compared.now.blocks)
         size pc regs.old regs.new result
         (effect (Load op form.now.rd form.now.rs1 form.now.imm) size) }
 {
     let address = address_of(regs, form);
     match memory.quick_load(address, load_size(op)) {
         Some(number) => {
-            put(regs, form, load_result(op, number));
+            write(regs, form, load_result(op, number), nonzero);
             Next::On
         }
         None => Next::Not,
@@ -73,14 +96,16 @@ fn store_quickly<P: Pages>(
     form: &Form,
     op: StoreOp,
 ) -> Next
-    ensures done { (size pc : ℕ) → DoneOrNot (answers_of P.places) (ShowsKnown
+    ensures done { (size pc : ℕ) → DoneOrNot (answers_of (beside_name P.places)) (ShowsKnown
         (still memory.old.tid (P.owners memory.old.pages) memory.old.space.now.entries)
-        (P.fixed memory.old.pages) (P.state memory.old.pages) (P.pages memory.old.pages)
-        memory.old.shown memory.old.compared)
+        (P.fixed memory.old.pages, memory.old.compared.ghost_name) (P.state memory.old.pages)
+        (P.pages memory.old.pages)
+        memory.old.compared.now.slots memory.old.compared.now.blocks)
         (ShowsKnown
         (still memory.new.tid (P.owners memory.new.pages) memory.new.space.now.entries)
-        (P.fixed memory.new.pages) (P.state memory.new.pages) (P.pages memory.new.pages)
-        memory.new.shown memory.new.compared)
+        (P.fixed memory.new.pages, memory.new.compared.ghost_name) (P.state memory.new.pages)
+        (P.pages memory.new.pages)
+        memory.new.compared.now.slots memory.new.compared.now.blocks)
         size pc regs.now regs.now result
         (effect (Store op form.now.rs1 form.now.rs2 form.now.imm) size) }
     ensures same { (memory.new.shown ≡ memory.old.shown)
@@ -196,8 +221,8 @@ fn jalr(regs: &mut Regs, line: &Line, pc: u32) -> Next
     jump_and_link(regs, line, pc, target)
 }
 
-/// One of the instructions that have no kind of their own: nothing is done where it isn't one of
-/// these.
+/// One of the instructions that have no kind of their own, or that write x0: nothing is done where
+/// it isn't one of these.
 #[inline(always)]
 fn other<P: Pages, E: Extent>(
     regs: &mut Regs,
@@ -206,14 +231,16 @@ fn other<P: Pages, E: Extent>(
     pc: u32,
 ) -> Next
     ensures done { (instr : Instr) (size : ℕ) → instr_of_form form.now ≡ Some (instr, size)
-        → DoneOrNot (answers_of P.places) (ShowsKnown
+        → DoneOrNot (answers_of (beside_name P.places)) (ShowsKnown
         (still memory.old.tid (P.owners memory.old.pages) memory.old.space.now.entries)
-        (P.fixed memory.old.pages) (P.state memory.old.pages) (P.pages memory.old.pages)
-        memory.old.shown memory.old.compared)
+        (P.fixed memory.old.pages, memory.old.compared.ghost_name) (P.state memory.old.pages)
+        (P.pages memory.old.pages)
+        memory.old.compared.now.slots memory.old.compared.now.blocks)
         (ShowsKnown
         (still memory.new.tid (P.owners memory.new.pages) memory.new.space.now.entries)
-        (P.fixed memory.new.pages) (P.state memory.new.pages) (P.pages memory.new.pages)
-        memory.new.shown memory.new.compared)
+        (P.fixed memory.new.pages, memory.new.compared.ghost_name) (P.state memory.new.pages)
+        (P.pages memory.new.pages)
+        memory.new.compared.now.slots memory.new.compared.now.blocks)
         size pc regs.old regs.new result (effect instr size) }
     ensures same { (memory.new.shown ≡ memory.old.shown)
         × (memory.new.compared ≡ memory.old.compared) }
@@ -222,6 +249,8 @@ fn other<P: Pages, E: Extent>(
         Op::Lui => lui(regs, form),
         Op::ShortLui => lui(regs, form),
         Op::Auipc => auipc(regs, form, pc),
+        Op::Addi => immediate(regs, form, ImmOp::Addi),
+        Op::ShortAddi => immediate(regs, form, ImmOp::Addi),
         Op::Slti => immediate(regs, form, ImmOp::Slti),
         Op::Sltiu => immediate(regs, form, ImmOp::Sltiu),
         Op::Xori => immediate(regs, form, ImmOp::Xori),
@@ -247,9 +276,9 @@ fn other<P: Pages, E: Extent>(
         Op::Divu => register(regs, form, RegOp::Divu),
         Op::Rem => register(regs, form, RegOp::Rem),
         Op::Remu => register(regs, form, RegOp::Remu),
-        Op::Lb => load_quickly(regs, memory, form, LoadOp::Lb),
-        Op::Lh => load_quickly(regs, memory, form, LoadOp::Lh),
-        Op::Lhu => load_quickly(regs, memory, form, LoadOp::Lhu),
+        Op::Lb => load_quickly(regs, memory, form, LoadOp::Lb, false),
+        Op::Lh => load_quickly(regs, memory, form, LoadOp::Lh, false),
+        Op::Lhu => load_quickly(regs, memory, form, LoadOp::Lhu, false),
         Op::Sb => store_quickly(regs, memory, form, StoreOp::Sb),
         Op::Sh => store_quickly(regs, memory, form, StoreOp::Sh),
         Op::Fence => Next::On,
@@ -275,14 +304,16 @@ fn perform_line<P: Pages, E: Extent>(
     line: &Line,
     base: u32,
 ) -> Next
-    ensures done { DoneOrNot (answers_of P.places) (ShowsKnown
+    ensures done { DoneOrNot (answers_of (beside_name P.places)) (ShowsKnown
         (still memory.old.tid (P.owners memory.old.pages) memory.old.space.now.entries)
-        (P.fixed memory.old.pages) (P.state memory.old.pages) (P.pages memory.old.pages)
-        memory.old.shown memory.old.compared)
+        (P.fixed memory.old.pages, memory.old.compared.ghost_name) (P.state memory.old.pages)
+        (P.pages memory.old.pages)
+        memory.old.compared.now.slots memory.old.compared.now.blocks)
         (ShowsKnown
         (still memory.new.tid (P.owners memory.new.pages) memory.new.space.now.entries)
-        (P.fixed memory.new.pages) (P.state memory.new.pages) (P.pages memory.new.pages)
-        memory.new.shown memory.new.compared)
+        (P.fixed memory.new.pages, memory.new.compared.ghost_name) (P.state memory.new.pages)
+        (P.pages memory.new.pages)
+        memory.new.compared.now.slots memory.new.compared.now.blocks)
         line.now.size ((base + line.now.offset) % 2 ^ 32) regs.old regs.new result
         (effect_of_form line.now.form) }
     ensures same { (memory.new.shown ≡ memory.old.shown)
@@ -292,18 +323,18 @@ fn perform_line<P: Pages, E: Extent>(
 {
     let form = &line.form;
     match line.kind {
-        Kind::Addi => immediate(regs, form, ImmOp::Addi),
-        Kind::Lw => load_quickly(regs, memory, form, LoadOp::Lw),
+        Kind::Addi => nonzero::immediate(regs, form, ImmOp::Addi),
+        Kind::Lw => load_quickly(regs, memory, form, LoadOp::Lw, true),
         Kind::Sw => store_quickly(regs, memory, form, StoreOp::Sw),
-        Kind::Lbu => load_quickly(regs, memory, form, LoadOp::Lbu),
+        Kind::Lbu => load_quickly(regs, memory, form, LoadOp::Lbu, true),
         Kind::Equal => equal(regs, line, pc_at(base, line)),
         Kind::Below => below(regs, line, pc_at(base, line)),
         Kind::Less => less(regs, line, pc_at(base, line)),
-        Kind::Add => register(regs, form, RegOp::Add),
-        Kind::Slli => shift(regs, form, ShiftOp::Slli),
-        Kind::Srli => shift(regs, form, ShiftOp::Srli),
-        Kind::Xor => register(regs, form, RegOp::Xor),
-        Kind::And => register(regs, form, RegOp::And),
+        Kind::Add => nonzero::register(regs, form, RegOp::Add),
+        Kind::Slli => nonzero::shift(regs, form, ShiftOp::Slli),
+        Kind::Srli => nonzero::shift(regs, form, ShiftOp::Srli),
+        Kind::Xor => nonzero::register(regs, form, RegOp::Xor),
+        Kind::And => nonzero::register(regs, form, RegOp::And),
         Kind::Jal => jal(regs, line, pc_at(base, line)),
         Kind::Jalr => jalr(regs, line, pc_at(base, line)),
         Kind::Other => other::<P, E>(regs, memory, form, pc_at(base, line)),
@@ -365,16 +396,19 @@ pub fn follow<P: Pages, E: Extent>(
     requires some { 0 < from }
     requires there { HasLine lines.now from }
     requires enough { E.whole ≡ true → IsRunWithin lines.now from budget }
-    ensures reaches { (known : Known) (address : ℕ) (f : Still × P.Fixed) (m : P.State)
-        → IsLineOf memory.old.shown memory.old.compared known lines.now base address from
+    ensures reaches { (known : Known) (address : ℕ) (f : Still × (P.Fixed × GName)) (m : P.State)
+        → IsLineOf memory.old.shown memory.old.compared.now.blocks known lines.now base address from
         → ShowsKnown
         (still memory.old.tid (P.owners memory.old.pages) memory.old.space.now.entries)
-        (P.fixed memory.old.pages) (P.state memory.old.pages) (P.pages memory.old.pages)
-        memory.old.shown memory.old.compared (f, bytes_of_pages known) m
-        → ReachesIn base (run_answers f.0 (P.places f.1)) (ShowsKnown
+        (P.fixed memory.old.pages, memory.old.compared.ghost_name) (P.state memory.old.pages)
+        (P.pages memory.old.pages)
+        memory.old.compared.now.slots memory.old.compared.now.blocks (f, bytes_of_pages known) m
+        → ReachesIn base (run_answers f.0 (P.places f.1.0)) (ShowsKnown
         (still memory.new.tid (P.owners memory.new.pages) memory.new.space.now.entries)
-        (P.fixed memory.new.pages) (P.state memory.new.pages) (P.pages memory.new.pages)
-        memory.new.shown memory.new.compared (f, bytes_of_pages known)) (with_pc regs.old address) m
+        (P.fixed memory.new.pages, memory.new.compared.ghost_name) (P.state memory.new.pages)
+        (P.pages memory.new.pages)
+        memory.new.compared.now.slots memory.new.compared.now.blocks (f, bytes_of_pages known))
+        (with_pc regs.old address) m
         (with_pc regs.new ((base + result.to) % 2 ^ 32)) (budget - result.left) }
     ensures within { result.left ≤ budget }
     ensures stays { (line : line_type) → slice_get lines.now from ≡ Some line
@@ -429,16 +463,19 @@ pub fn part_of_run<P: Pages>(
     requires runs { AreRuns lines.now }
     requires some { 0 < from }
     requires there { HasLine lines.now from }
-    ensures reaches { (known : Known) (address : ℕ) (f : Still × P.Fixed) (m : P.State)
-        → IsLineOf memory.old.shown memory.old.compared known lines.now base address from
+    ensures reaches { (known : Known) (address : ℕ) (f : Still × (P.Fixed × GName)) (m : P.State)
+        → IsLineOf memory.old.shown memory.old.compared.now.blocks known lines.now base address from
         → ShowsKnown
         (still memory.old.tid (P.owners memory.old.pages) memory.old.space.now.entries)
-        (P.fixed memory.old.pages) (P.state memory.old.pages) (P.pages memory.old.pages)
-        memory.old.shown memory.old.compared (f, bytes_of_pages known) m
-        → ReachesIn base (run_answers f.0 (P.places f.1)) (ShowsKnown
+        (P.fixed memory.old.pages, memory.old.compared.ghost_name) (P.state memory.old.pages)
+        (P.pages memory.old.pages)
+        memory.old.compared.now.slots memory.old.compared.now.blocks (f, bytes_of_pages known) m
+        → ReachesIn base (run_answers f.0 (P.places f.1.0)) (ShowsKnown
         (still memory.new.tid (P.owners memory.new.pages) memory.new.space.now.entries)
-        (P.fixed memory.new.pages) (P.state memory.new.pages) (P.pages memory.new.pages)
-        memory.new.shown memory.new.compared (f, bytes_of_pages known)) (with_pc regs.old address) m
+        (P.fixed memory.new.pages, memory.new.compared.ghost_name) (P.state memory.new.pages)
+        (P.pages memory.new.pages)
+        memory.new.compared.now.slots memory.new.compared.now.blocks (f, bytes_of_pages known))
+        (with_pc regs.old address) m
         (with_pc regs.new ((base + result.to) % 2 ^ 32)) (budget - result.left) }
     ensures within { result.left ≤ budget }
     ensures stays { (line : line_type) → slice_get lines.now from ≡ Some line

@@ -1,6 +1,7 @@
 // The loop, over any memory and in place.
 ghost use Rattle.std.specs.Prelude.{◌≡◌, ◌<◌, ◌≤◌, ◌+◌, ◌-◌, ◌⊎◌, ℕ, List, Some, Err, MatchOption};
-ghost use Rattle.std.specs.Prelude.{length, map, is_some, true, false, replicate};
+ghost use Rattle.std.specs.Prelude.{Option, length, map, is_some, true};
+ghost use Rattle.std.specs.Borrow.{GName};
 ghost use Rattle.dos_world.specs.World.{World, with_pc};
 ghost use Rattle.page_store.specs.Store.{AreHome};
 ghost use Rattle.rv_exec.specs.Runs.{GoesTo};
@@ -13,8 +14,9 @@ ghost use Rattle.quantum_run.specs.ThreadRuns.{AreElsewhere, AreMapped, Goes, Is
 ghost use Rattle.quantum_run.specs.ThreadRuns.{StartsElsewhere, is_stop_at, run_to};
 ghost use Rattle.flat_machine.specs.Laws.{after_steps};
 ghost use Rattle.quantum_run.specs.ThreadRuns.{store_of};
+ghost use Rattle.quantum_run.specs.Knowing.{AreRight};
 ghost use Rattle.quantum_run.specs.Answering.{Still, run_answers, still};
-ghost use Rattle.quantum_run.specs.Showing.{ShowsBy, ShowsKnown};
+ghost use Rattle.quantum_run.specs.Showing.{ShowsKnown};
 
 use crate::buffered::Buffered;
 use crate::flight::{fly, fly_between};
@@ -25,7 +27,7 @@ use crate::slowly::{learns, slowly};
 use crate::thread_memory::Running;
 use code_pages::CodePages;
 use dos_world::{Reason, Regs};
-use page_store::{Frames, Page};
+use page_store::{Compared, Frames, Page};
 use space_map::Space;
 use std::mem;
 use written_words::WrittenWords;
@@ -40,7 +42,7 @@ fn is_stop_at(stops: &[u32], pc: u32) -> bool
 /// Instructions on a memory, each for one of the budget, until one stops or the budget has come
 /// down to the floor: by the lines that are known where they are, and else one by one. Where none
 /// is known one is learnt, and the next turn goes on by it. While they run, pc stands beside the
-/// registers. Nothing has been compared when they begin.
+/// registers.
 #[inline(always)]
 fn go<P: Pages>(
     regs: &mut Regs,
@@ -49,14 +51,17 @@ fn go<P: Pages>(
     budget: &mut u32,
     floor: u32,
 ) -> Option<Reason>
-    requires known { memory.old.compared ≡ replicate 1024 false }
     requires floor { floor ≤ budget.old }
-    ensures runs { (f : Still × P.Fixed) (m : P.State)
-        → ShowsBy (still memory.old.tid (P.owners memory.old.pages) memory.old.space.now.entries)
-        (P.fixed memory.old.pages) (P.state memory.old.pages) f m
-        → Goes (run_answers f.0 (P.places f.1)) (ShowsBy
+    ensures runs { (f : Still × (P.Fixed × GName)) (m : P.State)
+        → ShowsKnown (still memory.old.tid (P.owners memory.old.pages) memory.old.space.now.entries)
+        (P.fixed memory.old.pages, memory.old.compared.ghost_name) (P.state memory.old.pages)
+        (P.pages memory.old.pages) memory.old.compared.now.slots memory.old.compared.now.blocks
+        (f, bytes_of_pages code.old) m
+        → Goes (run_answers f.0 (P.places f.1.0)) (ShowsKnown
         (still memory.new.tid (P.owners memory.new.pages) memory.new.space.now.entries)
-        (P.fixed memory.new.pages) (P.state memory.new.pages) f) regs.old m regs.new
+        (P.fixed memory.new.pages, memory.new.compared.ghost_name) (P.state memory.new.pages)
+        (P.pages memory.new.pages) memory.new.compared.now.slots memory.new.compared.now.blocks
+        (f, bytes_of_pages code.new)) regs.old m regs.new
         (budget.old - budget.new) result }
     ensures stop { MatchOption result (budget.new ≡ floor) (λ reason. 0 < budget.new) }
     ensures within { budget.new ≤ budget.old }
@@ -104,21 +109,26 @@ fn go_up_to<P: Pages>(
     budget: &mut u32,
     stops: &[u32],
 ) -> Option<Reason>
-    requires known { memory.old.compared ≡ replicate 1024 false }
-    ensures runs { (f : Still × P.Fixed) (m : P.State)
-        → ShowsBy (still memory.old.tid (P.owners memory.old.pages) memory.old.space.now.entries)
-        (P.fixed memory.old.pages) (P.state memory.old.pages) f m
-        → Goes (run_answers f.0 (P.places f.1)) (ShowsBy
+    ensures runs { (f : Still × (P.Fixed × GName)) (m : P.State)
+        → ShowsKnown (still memory.old.tid (P.owners memory.old.pages) memory.old.space.now.entries)
+        (P.fixed memory.old.pages, memory.old.compared.ghost_name) (P.state memory.old.pages)
+        (P.pages memory.old.pages) memory.old.compared.now.slots memory.old.compared.now.blocks
+        (f, bytes_of_pages code.old) m
+        → Goes (run_answers f.0 (P.places f.1.0)) (ShowsKnown
         (still memory.new.tid (P.owners memory.new.pages) memory.new.space.now.entries)
-        (P.fixed memory.new.pages) (P.state memory.new.pages) f) regs.old m regs.new
+        (P.fixed memory.new.pages, memory.new.compared.ghost_name) (P.state memory.new.pages)
+        (P.pages memory.new.pages) memory.new.compared.now.slots memory.new.compared.now.blocks
+        (f, bytes_of_pages code.new)) regs.old m regs.new
         (budget.old - budget.new) result }
     ensures stop { MatchOption result
         ((budget.new ≡ 0) ⊎ (is_stop_at stops.now regs.new.pc ≡ true)) (λ reason. 0 < budget.new) }
     ensures within { budget.new ≤ budget.old }
-    ensures elsewhere { (f : Still × P.Fixed) (m : P.State)
-        → ShowsBy (still memory.old.tid (P.owners memory.old.pages) memory.old.space.now.entries)
-        (P.fixed memory.old.pages) (P.state memory.old.pages) f m
-        → AreElsewhere (run_answers f.0 (P.places f.1)) stops.now (budget.old - budget.new)
+    ensures elsewhere { (f : Still × (P.Fixed × GName)) (m : P.State)
+        → ShowsKnown (still memory.old.tid (P.owners memory.old.pages) memory.old.space.now.entries)
+        (P.fixed memory.old.pages, memory.old.compared.ghost_name) (P.state memory.old.pages)
+        (P.pages memory.old.pages) memory.old.compared.now.slots memory.old.compared.now.blocks
+        (f, bytes_of_pages code.old) m
+        → AreElsewhere (run_answers f.0 (P.places f.1.0)) stops.now (budget.old - budget.new)
         regs.old m }
 {
     let mut pc = regs.pc();
@@ -162,7 +172,8 @@ pub(crate) fn run<P: Pages>(
     budget: &mut u32,
     floor: u32,
 ) -> Option<Reason>
-    requires known { memory.old.compared ≡ replicate 1024 false }
+    requires right { AreRight memory.old.compared.now.slots memory.old.compared.now.blocks
+        (P.pages memory.old.pages) (bytes_of_pages code.old) }
     requires floor { floor ≤ budget.old }
     ensures runs { GoesTo (run_answers
         (still memory.old.tid (P.owners memory.old.pages) memory.old.space.now.entries)
@@ -173,6 +184,9 @@ pub(crate) fn run<P: Pages>(
         (still memory.old.tid (P.owners memory.old.pages) memory.old.space.now.entries)
         (P.places (P.fixed memory.old.pages))) regs.new (P.state memory.new.pages) ≡ Err reason)) }
     ensures within { budget.new ≤ budget.old }
+    ensures right { AreRight memory.new.compared.now.slots memory.new.compared.now.blocks
+        (P.pages memory.new.pages) (bytes_of_pages code.new) }
+    ensures name { memory.new.compared.ghost_name ≡ memory.old.compared.ghost_name }
     ensures owners { P.owners memory.new.pages ≡ P.owners memory.old.pages }
     ensures fixed { P.fixed memory.new.pages ≡ P.fixed memory.old.pages }
 {
@@ -191,7 +205,8 @@ fn run_up_to<P: Pages>(
     budget: &mut u32,
     stops: &[u32],
 ) -> Option<Reason>
-    requires known { memory.old.compared ≡ replicate 1024 false }
+    requires right { AreRight memory.old.compared.now.slots memory.old.compared.now.blocks
+        (P.pages memory.old.pages) (bytes_of_pages code.old) }
     ensures runs { GoesTo (run_answers
         (still memory.old.tid (P.owners memory.old.pages) memory.old.space.now.entries)
         (P.places (P.fixed memory.old.pages))) (budget.old - budget.new) regs.old
@@ -206,6 +221,9 @@ fn run_up_to<P: Pages>(
         (P.places (P.fixed memory.old.pages))) stops.now (budget.old - budget.new) regs.old
         (P.state memory.old.pages) }
     ensures within { budget.new ≤ budget.old }
+    ensures right { AreRight memory.new.compared.now.slots memory.new.compared.now.blocks
+        (P.pages memory.new.pages) (bytes_of_pages code.new) }
+    ensures name { memory.new.compared.ghost_name ≡ memory.old.compared.ghost_name }
     ensures owners { P.owners memory.new.pages ≡ P.owners memory.old.pages }
     ensures fixed { P.fixed memory.new.pages ≡ P.fixed memory.old.pages }
 {
@@ -251,12 +269,14 @@ pub(crate) fn run_lent(
     ensures here { map is_some own.new ≡ map is_some own.old }
 {
     write_out(&mut own.pages, own.count);
+    let mut compared = Compared::nothing();
     run_written(
         &mut own.pages,
         frames,
         space,
         tid,
         code,
+        &mut compared,
         regs,
         budget,
         floor,
@@ -265,12 +285,13 @@ pub(crate) fn run_lent(
 
 /// The same where each place is written.
 #[inline(always)]
-fn run_written(
+fn run_written<'a>(
     own: &mut Vec<Option<Page>>,
-    frames: &Frames,
-    space: &Space,
+    frames: &'a Frames,
+    space: &'a Space,
     tid: u32,
     code: &mut CodePages,
+    compared: &'a mut Compared,
     regs: &mut Regs,
     budget: &mut u32,
     floor: u32,
@@ -281,6 +302,8 @@ fn run_written(
     requires own { AreOwn tid frames.now.owners space.now.entries (is_here own.old.items) }
     requires within { AreWithin frames.now.owners space.now.entries }
     requires floor { floor ≤ budget.old }
+    requires right { (pages known : List (Option (List ℕ)))
+        → AreRight compared.old.slots compared.old.blocks pages known }
     ensures runs { (w : World)
         → IsRunOf w (store_of frames.now.owners (overlay own.old.items frames.now.pages))
         space.now.entries tid regs.old budget.old
@@ -304,10 +327,11 @@ fn run_written(
         lent: frames.pages(),
         frames,
     };
-    let mut memory = Running::new(pages, space, tid, code.hints());
+    let mut memory = Running::new(pages, space, compared, tid, code.hints());
     let stop = run(&mut memory, code, regs, budget, floor);
     code.keep_hints(memory.hints);
-    *own = memory.pages.own;
+    let pages = memory.pages;
+    *own = pages.own;
     stop
 }
 
@@ -330,6 +354,42 @@ pub(crate) fn run_over(
     ensures { HasWritten frames.now space.now.entries tid regs.old regs.new words.old words.new
         budget.old budget.new floor result }
 {
+    let mut compared = Compared::nothing();
+    run_beside(
+        frames,
+        space,
+        tid,
+        code,
+        &mut compared,
+        words,
+        regs,
+        budget,
+        floor,
+    )
+}
+
+/// The same where nothing is compared.
+#[inline(always)]
+fn run_beside<'a>(
+    frames: &'a Frames,
+    space: &'a Space,
+    tid: u32,
+    code: &mut CodePages,
+    compared: &'a mut Compared,
+    words: &mut Option<WrittenWords>,
+    regs: &mut Regs,
+    budget: &mut u32,
+    floor: u32,
+) -> Option<Reason>
+    requires words { is_some words.old ≡ true }
+    requires home { AreHome frames.now }
+    requires mapped { AreMapped frames.now space.now.entries }
+    requires floor { floor ≤ budget.old }
+    requires right { (pages known : List (Option (List ℕ)))
+        → AreRight compared.old.slots compared.old.blocks pages known }
+    ensures { HasWritten frames.now space.now.entries tid regs.old regs.new words.old words.new
+        budget.old budget.new floor result }
+{
     let own = match words.take() {
         Some(own) => own,
         None => unreachable!(),
@@ -339,10 +399,11 @@ pub(crate) fn run_over(
         words: own,
         tid,
     };
-    let mut memory = Running::new(pages, space, tid, code.hints());
+    let mut memory = Running::new(pages, space, compared, tid, code.hints());
     let stop = run(&mut memory, code, regs, budget, floor);
     code.keep_hints(memory.hints);
-    *words = Some(memory.pages.words);
+    let pages = memory.pages;
+    *words = Some(pages.words);
     stop
 }
 
@@ -352,12 +413,17 @@ fn run_in_place(
     space: &Space,
     tid: u32,
     code: &mut CodePages,
+    compared: &mut Compared,
     regs: &mut Regs,
     budget: &mut u32,
     stops: &[u32],
 ) -> Option<Reason>
     requires home { AreHome frames.old }
     requires mapped { AreMapped frames.old space.now.entries }
+    requires right { AreRight compared.old.slots compared.old.blocks frames.old.pages
+        (bytes_of_pages code.old) }
+    ensures right { AreRight compared.new.slots compared.new.blocks frames.new.pages
+        (bytes_of_pages code.new) }
     ensures runs { (w : World) → IsRunOf w frames.old space.now.entries tid regs.old budget.old
         → after_steps (budget.old - budget.new) w tid
         ≡ Some (run_to w tid frames.new.pages regs.new budget.new) }
@@ -376,12 +442,12 @@ fn run_in_place(
     ensures home { AreHome frames.new }
 {
     if stops.is_empty() {
-        let mut memory = Running::new(InPlace { frames }, space, tid, code.hints());
+        let mut memory = Running::new(InPlace { frames }, space, compared, tid, code.hints());
         let stop = run(&mut memory, code, regs, budget, 0);
         code.keep_hints(memory.hints);
         return stop;
     }
-    let mut memory = Running::new(InPlace { frames }, space, tid, code.hints());
+    let mut memory = Running::new(InPlace { frames }, space, compared, tid, code.hints());
     let stop = run_up_to(&mut memory, code, regs, budget, stops);
     code.keep_hints(memory.hints);
     stop
@@ -423,15 +489,34 @@ pub fn run_until_address(
     ensures marked { frames.new.marked ≡ frames.old.marked }
     ensures home { AreHome frames.new }
 {
-    match frames.take_code() {
-        Some(mut code) => {
-            let stop = run_in_place(frames, space, tid, &mut code, regs, budget, stops);
-            frames.keep_code(code);
+    match frames.take_known() {
+        Some((mut code, mut compared)) => {
+            let stop = run_in_place(
+                frames,
+                space,
+                tid,
+                &mut code,
+                &mut compared,
+                regs,
+                budget,
+                stops,
+            );
+            frames.keep_known(code, compared);
             stop
         }
         None => {
             let mut code = CodePages::empty(frames.allocator());
-            run_in_place(frames, space, tid, &mut code, regs, budget, stops)
+            let mut compared = Compared::nothing();
+            run_in_place(
+                frames,
+                space,
+                tid,
+                &mut code,
+                &mut compared,
+                regs,
+                budget,
+                stops,
+            )
         }
     }
 }

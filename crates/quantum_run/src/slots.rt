@@ -1,11 +1,10 @@
 // Slots for pages that were found.
-ghost use Rattle.std.specs.Prelude.{◌≡◌, ◌≢◌, ◌<◌, ◌+◌, ◌==◌, ◌/◌, ◌%◌, ◌⊎◌, false, replicate};
+ghost use Rattle.std.specs.Prelude.{◌≡◌, ◌<◌, ◌+◌, ◌==◌, ◌/◌, ◌%◌, ◌⊎◌, false, replicate, true};
 ghost use Rattle.std.specs.Prelude.{slice_set};
 ghost use Rattle.std.specs.List.{list_any};
 ghost use Rattle.dos_world.specs.Reach.{width};
-ghost use Rattle.quantum_run.specs.Finding.{no_start, page_start};
-ghost use Rattle.quantum_run.specs.Knowing.{AreFewer, AreHidden, SlotsAreMarked, IsNoCode};
-ghost use Rattle.quantum_run.specs.Knowing.{IsUncompared};
+ghost use Rattle.quantum_run.specs.Finding.{page_start};
+ghost use Rattle.quantum_run.specs.Knowing.{SlotsAreMarked, IsNoCode};
 ghost use Rattle.quantum_run.specs.Knowing.{code_place};
 ghost use Rattle.quantum_run.specs.Knowing.{empty_slot};
 
@@ -14,6 +13,20 @@ use page_store::Slot;
 
 /// The start of a slot that has found nothing: no page begins there.
 pub const NO_START: u32 = 0xffff_ffff;
+
+/// A slot that has found nothing.
+pub const NO_SLOT: Slot = Slot {
+    start: NO_START,
+    frame: NO_START,
+};
+
+/// Whether two slots have found the same page.
+#[inline(always)]
+pub fn is_same(a: Slot, b: Slot) -> bool
+    ensures { result ≡ true → a ≡ b }
+{
+    a.start == b.start && a.frame == b.frame
+}
 
 /// No slot has found anything.
 #[inline]
@@ -119,60 +132,6 @@ pub fn forget_frame(slots: &mut [Slot; 64], marks: &[bool; 64], frame: u32)
 {
     if finds_frame(slots, marks, frame) {
         *slots = nothing_found();
-    }
-}
-
-/// A slot, or one that has found nothing where it has this frame.
-fn hidden(slot: Slot, frame: u32) -> Slot
-    ensures none { result.start < no_start → result.frame ≢ frame }
-    ensures other { (result ≡ slot) ⊎ (result ≡ empty_slot) }
-{
-    if slot.frame == frame {
-        return Slot {
-            start: NO_START,
-            frame: NO_START,
-        };
-    }
-    slot
-}
-
-/// No slot has this frame from now on; the others are the same.
-#[cold]
-#[inline(never)]
-fn hide_everywhere(slots: &mut [Slot; 64], frame: u32)
-    ensures none { IsNoCode slots.new frame }
-    ensures others { AreHidden slots.old slots.new }
-{
-    for at in 0..64usize {
-        slots[at] = hidden(slots[at], frame);
-    }
-}
-
-/// The same, and whether one had it. It looks first at the slot of an address's page: mostly no
-/// other has it.
-#[inline]
-pub fn hide_frame(slots: &mut [Slot; 64], address: u32, frame: u32) -> bool
-    ensures none { IsNoCode slots.new frame }
-    ensures others { AreHidden slots.old slots.new }
-{
-    let place = slot_place(address);
-    let is_there = slots[place].frame == frame;
-    slots[place] = hidden(slots[place], frame);
-    if has_frame(slots, frame) {
-        hide_everywhere(slots, frame);
-        return true;
-    }
-    is_there
-}
-
-/// No block of a slot has been compared from now on; the others are the same.
-pub fn forget_blocks(compared: &mut [bool; 1024], slot: usize)
-    requires { slot < 64 }
-    ensures none { IsUncompared compared.new slot }
-    ensures others { AreFewer compared.old compared.new }
-{
-    for block in 16 * slot..16 * slot + 16 {
-        compared[block] = false;
     }
 }
 

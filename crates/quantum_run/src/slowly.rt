@@ -1,5 +1,6 @@
 // One instruction, with pc beside the registers.
 ghost use Rattle.std.specs.Prelude.{◌≡◌, ◌<◌, ◌⊎◌, ◌%◌, ℕ, List, true, unwrap_or};
+ghost use Rattle.std.specs.Borrow.{GName};
 ghost use Rattle.dos_world.specs.World.{Registers as registers_of_thread, with_pc};
 ghost use Rattle.dos_world.specs.declared.Reason.{Reason as reason};
 ghost use Rattle.rv_exec.specs.Arrivals.{arrived, went};
@@ -61,14 +62,16 @@ pub fn learns<P: Pages>(
     at: usize,
     is_wanted: bool,
 ) -> bool
-    ensures shows { (f : Still × P.Fixed) (m : P.State) → ShowsKnown
+    ensures shows { (f : Still × (P.Fixed × GName)) (m : P.State) → ShowsKnown
         (still memory.old.tid (P.owners memory.old.pages) memory.old.space.now.entries)
-        (P.fixed memory.old.pages) (P.state memory.old.pages) (P.pages memory.old.pages)
-        memory.old.shown memory.old.compared (f, bytes_of_pages code.old) m
+        (P.fixed memory.old.pages, memory.old.compared.ghost_name) (P.state memory.old.pages)
+        (P.pages memory.old.pages)
+        memory.old.compared.now.slots memory.old.compared.now.blocks (f, bytes_of_pages code.old) m
         → ShowsKnown
         (still memory.new.tid (P.owners memory.new.pages) memory.new.space.now.entries)
-        (P.fixed memory.new.pages) (P.state memory.new.pages) (P.pages memory.new.pages)
-        memory.new.shown memory.new.compared (f, bytes_of_pages code.new) m }
+        (P.fixed memory.new.pages, memory.new.compared.ghost_name) (P.state memory.new.pages)
+        (P.pages memory.new.pages) memory.new.compared.now.slots memory.new.compared.now.blocks
+        (f, bytes_of_pages code.new) m }
     ensures wanted { result ≡ true → is_wanted ≡ true }
     ensures known { 0 < at → (memory.new ≡ memory.old) × (code.new ≡ code.old) }
 {
@@ -86,16 +89,20 @@ fn line_here<P: Pages>(
     pc: u32,
     at: usize,
 ) -> usize
-    requires { (at ≡ 0) ⊎ IsLineOf memory.old.shown memory.old.compared code.old code.old.lines
+    requires { (at ≡ 0) ⊎ IsLineOf memory.old.shown memory.old.compared.now.blocks code.old
+        code.old.lines
         (page_start pc) pc at }
     ensures line { (result ≡ 0)
-        ⊎ IsLineFor memory.new.shown memory.new.compared code.new pc result }
+        ⊎ IsLineFor memory.new.shown memory.new.compared.now.blocks code.new pc result }
     ensures live { (result ≡ 0) ⊎ IsLiveAt code.new.lines result }
     ensures even { (result ≡ 0) ⊎ (pc % 2 ≡ 0) }
-    ensures right { AreRight memory.old.shown memory.old.compared (P.pages memory.old.pages)
+    ensures right { AreRight memory.old.compared.now.slots memory.old.compared.now.blocks
+        (P.pages memory.old.pages)
         (bytes_of_pages code.old)
-        → AreRight memory.new.shown memory.new.compared (P.pages memory.new.pages)
+        → AreRight memory.new.compared.now.slots memory.new.compared.now.blocks
+        (P.pages memory.new.pages)
         (bytes_of_pages code.new) }
+    ensures name { memory.new.compared.ghost_name ≡ memory.old.compared.ghost_name }
     ensures still { still memory.new.tid (P.owners memory.new.pages) memory.new.space.now.entries
         ≡ still memory.old.tid (P.owners memory.old.pages) memory.old.space.now.entries }
     ensures pages { memory.new.pages ≡ memory.old.pages }
@@ -120,18 +127,22 @@ pub fn slowly<P: Pages>(
     at: usize,
     why: &mut Reason,
 ) -> Option<u32>
-    requires { (at ≡ 0) ⊎ IsLineOf memory.old.shown memory.old.compared code.old code.old.lines
+    requires { (at ≡ 0) ⊎ IsLineOf memory.old.shown memory.old.compared.now.blocks code.old
+        code.old.lines
         (page_start pc) pc at }
-    ensures { (f : Still × P.Fixed) (m : P.State) → ShowsKnown
+    ensures { (f : Still × (P.Fixed × GName)) (m : P.State) → ShowsKnown
         (still memory.old.tid (P.owners memory.old.pages) memory.old.space.now.entries)
-        (P.fixed memory.old.pages) (P.state memory.old.pages) (P.pages memory.old.pages)
-        memory.old.shown memory.old.compared (f, bytes_of_pages code.old) m
+        (P.fixed memory.old.pages, memory.old.compared.ghost_name) (P.state memory.old.pages)
+        (P.pages memory.old.pages)
+        memory.old.compared.now.slots memory.old.compared.now.blocks (f, bytes_of_pages code.old) m
         → Follows (ShowsKnown
         (still memory.new.tid (P.owners memory.new.pages) memory.new.space.now.entries)
-        (P.fixed memory.new.pages) (P.state memory.new.pages) (P.pages memory.new.pages)
-        memory.new.shown memory.new.compared (f, bytes_of_pages code.new)) m (with_pc regs.old pc)
+        (P.fixed memory.new.pages, memory.new.compared.ghost_name) (P.state memory.new.pages)
+        (P.pages memory.new.pages)
+        memory.new.compared.now.slots memory.new.compared.now.blocks (f, bytes_of_pages code.new)) m
+        (with_pc regs.old pc)
         (with_pc regs.new (unwrap_or result pc)) (went_on result why.new)
-        (one_in (run_answers f.0 (P.places f.1)) (with_pc regs.old pc) m) }
+        (one_in (run_answers f.0 (P.places f.1.0)) (with_pc regs.old pc) m) }
 {
     let at = line_here(memory, code, pc, at);
     if at == 0 {

@@ -1,6 +1,7 @@
 // The memory of one thread over any pages.
 ghost use Rattle.std.specs.Prelude.{◌≡◌, ◌≢◌, ◌⊎◌, ◌+◌, ◌/◌, ◌%◌, ◌^◌, ◌<◌, ◌≤◌, ℕ, List, Option};
-ghost use Rattle.std.specs.Prelude.{Some, None, Ok, Err, IfSome, false, replicate, true};
+ghost use Rattle.std.specs.Prelude.{Some, None, Ok, Err, IfSome, false, slice_index_or, true};
+ghost use Rattle.std.specs.Borrow.{GName};
 ghost use Rattle.std.specs.Option.{ok_or, option_map};
 ghost use Rattle.dos_world.specs.Reach.{bytes_of, width};
 ghost use Rattle.dos_world.specs.World.{look};
@@ -8,23 +9,24 @@ ghost use Rattle.dos_world.specs.declared.Access.TheVariants.{Fetch, Load, Store
 ghost use Rattle.page_store.specs.Store.{joined, number_at};
 ghost use Rattle.code_pages.specs.Lines.{IsLiveAt, bytes_of_pages};
 ghost use Rattle.quantum_run.specs.Answering.{Still, still};
-ghost use Rattle.quantum_run.specs.Showing.{ShowsKnown, StoresOrNot, answers_of};
-ghost use Rattle.quantum_run.specs.Finding.{AreFramesOf, IsFrameOf, IsWriting, flat_place};
+ghost use Rattle.quantum_run.specs.Showing.{ShowsKnown, StoresOrNot, answers_of, beside_name};
+ghost use Rattle.quantum_run.specs.Finding.{AreFramesOf, IsWriting, flat_place};
 ghost use Rattle.quantum_run.specs.Finding.{frame_for, frame_for_size, frame_of, page_start};
-ghost use Rattle.quantum_run.specs.Knowing.{SlotsAreMarked, AreRight, FetchesAreApart, IsCompared};
-ghost use Rattle.quantum_run.specs.Knowing.{IsLineFor};
+ghost use Rattle.quantum_run.specs.Knowing.{AreAmong, AreRight, FetchesAreApart, SlotsAreMarked};
+ghost use Rattle.quantum_run.specs.Knowing.{IsCompared};
+ghost use Rattle.quantum_run.specs.Knowing.{IsLineFor, empty_slot};
 ghost use Rattle.quantum_run.specs.Knowing.{IsNoCode};
 ghost use Rattle.quantum_run.specs.Knowing.{KeepsRight, slot_of};
 ghost use Rattle.quantum_run.specs.Pages.{AreReached, AreOwn, AreWithin, IsPageHere};
 
 use crate::pages::Pages;
 use crate::slots::{
-    NO_START, aligned_offset, aligned_start, code_place, finds_frame, forget_blocks, forget_frame,
-    hide_frame, keep_frame, mark_place, nothing_found, slot_place, start_of,
+    NO_SLOT, NO_START, aligned_offset, aligned_start, code_place, forget_frame, is_same,
+    keep_frame, mark_place, nothing_found, slot_place, start_of,
 };
 use code_pages::CodePages;
 use dos_world::{Access, Entry, Reason, Size};
-use page_store::Slot;
+use page_store::{Compared, Slot};
 use rv_exec::Memory;
 use space_map::Space;
 
@@ -33,11 +35,12 @@ use space_map::Space;
 /// entries stand still while the thread runs.
 ///
 /// Pages of code are known beside it, each by a copy of its bytes that was made in some part
-/// before. Of a page that a fetch has found in this part a block of 256 bytes is compared with the
-/// copy, once, before what is known of it is used: `compared` says of which. Only the thread itself
-/// writes while it runs. A frame that a fetch has found is no frame of a slot for stores, so that a
-/// store there is searched for, and then no fetch has found it any more: so what was compared is
-/// right whichever page it was written through.
+/// before. A block of 256 bytes of such a page is compared with the copy, once, before what is
+/// known of it is used: `compared` says of which, and outlives the part. What a fetch has found in
+/// this part, in `shown`, is among what was found there. Only the thread itself writes while it
+/// runs. A frame of which code was compared, in this part or before it, is no frame of a slot for
+/// stores, so that a store there is searched for, and then nothing of it is compared any more: so
+/// what was compared is right whichever page it was written through.
 ///
 /// What is refused is rare. A search answers None then and leaves the reason in `refused`, so that
 /// all it gives back to the loop of instructions fits registers.
@@ -45,12 +48,11 @@ use space_map::Space;
 pub struct Running<'a, P: Pages> {
     pub pages: P,
     pub space: &'a Space,
+    pub compared: &'a mut Compared,
     pub tid: u32,
     pub shown: [Slot; 64],
-    pub compared: [bool; 1024],
     pub loaded: [Slot; 64],
     pub stored: [Slot; 64],
-    pub shown_marks: [bool; 64],
     pub stored_marks: [bool; 64],
     pub hints: [u32; 64],
     pub refused: Reason,
@@ -60,31 +62,36 @@ pub struct Running<'a, P: Pages> {
     ghost shown_are: { AreFramesOf tid (P.owners pages) space.now.entries Fetch shown },
     ghost loaded_are: { AreFramesOf tid (P.owners pages) space.now.entries Load loaded },
     ghost stored_are: { AreFramesOf tid (P.owners pages) space.now.entries Store stored },
-    ghost apart: { FetchesAreApart shown stored },
-    ghost shown_marked: { SlotsAreMarked shown shown_marks },
+    ghost kept: { AreAmong compared.now.slots shown },
+    ghost apart: { FetchesAreApart compared.now.slots stored },
     ghost stored_marked: { SlotsAreMarked stored stored_marks },
 }
 
 impl<'a, P: Pages> Running<'a, P> {
     /// The memory before anything is found.
-    pub fn new(pages: P, space: &'a Space, tid: u32, hints: [u32; 64]) -> Running<'a, P>
+    pub fn new(
+        pages: P,
+        space: &'a Space,
+        compared: &'a mut Compared,
+        tid: u32,
+        hints: [u32; 64],
+    ) -> Running<'a, P>
         requires reached { AreReached tid (P.owners pages) space.now.entries (P.pages pages) }
         requires own { AreOwn tid (P.owners pages) space.now.entries (P.is_own pages) }
         requires within { AreWithin (P.owners pages) space.now.entries }
         ensures pages { result.pages ≡ pages }
         ensures space { result.space.now ≡ space.now }
         ensures thread { result.tid ≡ tid }
-        ensures compared { result.compared ≡ replicate 1024 false }
+        ensures compared { result.compared ≡ compared.entry }
     {
         Running {
             pages,
             space,
+            compared,
             tid,
             shown: nothing_found(),
-            compared: [false; 1024],
             loaded: nothing_found(),
             stored: nothing_found(),
-            shown_marks: [false; 64],
             stored_marks: [false; 64],
             hints,
             refused: Reason::Fault(11),
@@ -201,7 +208,7 @@ impl<'a, P: Pages> Running<'a, P> {
         {
             return;
         }
-        if finds_frame(&self.shown, &self.shown_marks, entry.frame) {
+        if self.compared.has(entry.frame) {
             return;
         }
         keep_frame(&mut self.stored, address, entry.frame);
@@ -256,34 +263,59 @@ impl<'a, P: Pages> Running<'a, P> {
         self.shown[slot_place(address)].start == aligned_start(address, Size::Half)
     }
 
-    /// A fetch finds this frame from now on, of an address's page; none of its blocks has been
-    /// compared, and no store finds it without a search.
-    fn show(&mut self, address: u32, frame: u32)
-        requires { frame_for self.old.tid (P.owners self.old.pages) self.old.space.now.entries
-            Fetch address ≡ Ok frame }
-        ensures found { (slot_of self.new.shown address).start ≡ page_start address }
-        ensures right { KeepsRight self.old.shown self.old.compared (P.pages self.old.pages)
-            self.new.shown self.new.compared (P.pages self.new.pages) }
+    /// The slot of a page is this one from now on. Where it was another, none of its blocks has
+    /// been compared, and no store finds its frame without a search.
+    fn fill_slot(&mut self, place: usize, slot: Slot)
+        requires { place < 64 }
+        ensures filled { slice_index_or self.new.compared.now.slots place empty_slot ≡ slot }
+        ensures right { KeepsRight self.old.compared.now.slots self.old.compared.now.blocks
+            (P.pages self.old.pages) self.new.compared.now.slots self.new.compared.now.blocks
+            (P.pages self.new.pages) }
+        ensures name { self.new.compared.ghost_name ≡ self.old.compared.ghost_name }
         ensures still { still self.new.tid (P.owners self.new.pages) self.new.space.now.entries
             ≡ still self.old.tid (P.owners self.old.pages) self.old.space.now.entries }
         ensures pages { self.new.pages ≡ self.old.pages }
     {
-        let slot = slot_place(address);
-        forget_frame(&mut self.stored, &self.stored_marks, frame);
-        self.shown[slot] = Slot {
+        if is_same(self.compared.slot(place), slot) {
+            return;
+        }
+        forget_frame(&mut self.stored, &self.stored_marks, slot.frame);
+        let other = self.compared.find(place, slot);
+        self.shown[other] = NO_SLOT;
+        self.shown[place] = NO_SLOT;
+    }
+
+    /// A fetch finds this frame from now on, of an address's page. What was compared of it stays
+    /// so, where the slot had it.
+    fn show(&mut self, address: u32, frame: u32)
+        requires { frame_for self.old.tid (P.owners self.old.pages) self.old.space.now.entries
+            Fetch address ≡ Ok frame }
+        ensures found { (slot_of self.new.shown address).start ≡ page_start address }
+        ensures right { KeepsRight self.old.compared.now.slots self.old.compared.now.blocks
+            (P.pages self.old.pages) self.new.compared.now.slots self.new.compared.now.blocks
+            (P.pages self.new.pages) }
+        ensures name { self.new.compared.ghost_name ≡ self.old.compared.ghost_name }
+        ensures still { still self.new.tid (P.owners self.new.pages) self.new.space.now.entries
+            ≡ still self.old.tid (P.owners self.old.pages) self.old.space.now.entries }
+        ensures pages { self.new.pages ≡ self.old.pages }
+    {
+        let place = slot_place(address);
+        let slot = Slot {
             start: start_of(address),
             frame,
         };
-        self.shown_marks[mark_place(frame)] = true;
-        forget_blocks(&mut self.compared, slot);
+        self.fill_slot(place, slot);
+        self.shown[place] = slot;
     }
 
     /// Whether a fetch finds the page of this address, by a search where none has.
     fn find_code(&mut self, address: u32) -> bool
         ensures found { result ≡ true
             → (slot_of self.new.shown address).start ≡ page_start address }
-        ensures right { KeepsRight self.old.shown self.old.compared (P.pages self.old.pages)
-            self.new.shown self.new.compared (P.pages self.new.pages) }
+        ensures right { KeepsRight self.old.compared.now.slots self.old.compared.now.blocks
+            (P.pages self.old.pages)
+            self.new.compared.now.slots self.new.compared.now.blocks (P.pages self.new.pages) }
+        ensures name { self.new.compared.ghost_name ≡ self.old.compared.ghost_name }
         ensures still { still self.new.tid (P.owners self.new.pages) self.new.space.now.entries
             ≡ still self.old.tid (P.owners self.old.pages) self.old.space.now.entries }
         ensures pages { self.new.pages ≡ self.old.pages }
@@ -307,18 +339,21 @@ impl<'a, P: Pages> Running<'a, P> {
     fn compare(&mut self, code: &mut CodePages, address: u32) -> bool
         requires found { (slot_of self.old.shown address).start ≡ page_start address }
         ensures compared { result ≡ true
-            → IsCompared self.new.shown self.new.compared address }
-        ensures right { AreRight self.old.shown self.old.compared (P.pages self.old.pages)
+            → IsCompared self.new.shown self.new.compared.now.blocks address }
+        ensures right { AreRight self.old.compared.now.slots self.old.compared.now.blocks
+            (P.pages self.old.pages)
             (bytes_of_pages code.old)
-            → AreRight self.new.shown self.new.compared (P.pages self.new.pages)
+            → AreRight self.new.compared.now.slots self.new.compared.now.blocks
+            (P.pages self.new.pages)
             (bytes_of_pages code.new) }
+        ensures name { self.new.compared.ghost_name ≡ self.old.compared.ghost_name }
         ensures still { still self.new.tid (P.owners self.new.pages) self.new.space.now.entries
             ≡ still self.old.tid (P.owners self.old.pages) self.old.space.now.entries }
         ensures pages { self.new.pages ≡ self.old.pages }
     {
         let slot = slot_place(address);
         let block = (address % 4096 / 256) as usize;
-        if self.compared[16 * slot + block] {
+        if self.compared.is_compared(16 * slot + block) {
             return true;
         }
         let Some(page) = self.pages.page(self.shown[slot].frame) else {
@@ -327,7 +362,7 @@ impl<'a, P: Pages> Running<'a, P> {
         if !code.check(code_place(address), block, page.bytes()) {
             return false;
         }
-        self.compared[16 * slot + block] = true;
+        self.compared.mark(16 * slot + block);
         true
     }
 
@@ -337,13 +372,16 @@ impl<'a, P: Pages> Running<'a, P> {
     #[inline(never)]
     pub fn line_to_perform(&mut self, code: &mut CodePages, address: u32) -> usize
         ensures line { (result ≡ 0)
-            ⊎ IsLineFor self.new.shown self.new.compared code.new address result }
+            ⊎ IsLineFor self.new.shown self.new.compared.now.blocks code.new address result }
         ensures live { (result ≡ 0) ⊎ IsLiveAt code.new.lines result }
         ensures even { (result ≡ 0) ⊎ (address % 2 ≡ 0) }
-        ensures right { AreRight self.old.shown self.old.compared (P.pages self.old.pages)
+        ensures right { AreRight self.old.compared.now.slots self.old.compared.now.blocks
+            (P.pages self.old.pages)
             (bytes_of_pages code.old)
-            → AreRight self.new.shown self.new.compared (P.pages self.new.pages)
+            → AreRight self.new.compared.now.slots self.new.compared.now.blocks
+            (P.pages self.new.pages)
             (bytes_of_pages code.new) }
+        ensures name { self.new.compared.ghost_name ≡ self.old.compared.ghost_name }
         ensures still { still self.new.tid (P.owners self.new.pages) self.new.space.now.entries
             ≡ still self.old.tid (P.owners self.old.pages) self.old.space.now.entries }
         ensures pages { self.new.pages ≡ self.old.pages }
@@ -364,11 +402,13 @@ impl<'a, P: Pages> Running<'a, P> {
     #[inline(always)]
     pub fn quick_load(&self, address: u32, size: Size) -> Option<u32>
         ensures number { IfSome result (λ number.
-            (fixed : (Still × P.Fixed) × List (Option (List ℕ))) (m : P.State) → ShowsKnown
+            (fixed : (Still × (P.Fixed × GName)) × List (Option (List ℕ))) (m : P.State)
+            → ShowsKnown
             (still self.now.tid (P.owners self.now.pages) self.now.space.now.entries)
-            (P.fixed self.now.pages) (P.state self.now.pages) (P.pages self.now.pages)
-            self.now.shown self.now.compared fixed m
-            → (answers_of P.places fixed).load m address size ≡ Ok number) }
+            (P.fixed self.now.pages, self.now.compared.ghost_name) (P.state self.now.pages)
+            (P.pages self.now.pages)
+            self.now.compared.now.slots self.now.compared.now.blocks fixed m
+            → (answers_of (beside_name P.places) fixed).load m address size ≡ Ok number) }
     {
         let slot = self.loaded[slot_place(address)];
         if slot.start != aligned_start(address, size) {
@@ -381,14 +421,18 @@ impl<'a, P: Pages> Running<'a, P> {
     /// without a search, it is aligned and there is room. Nothing is changed where they aren't.
     #[inline(always)]
     pub fn quick_store(&mut self, address: u32, size: Size, value: u32) -> bool
-        ensures stored { (fixed : (Still × P.Fixed) × List (Option (List ℕ))) (m : P.State)
+        ensures stored { (fixed : (Still × (P.Fixed × GName)) × List (Option (List ℕ)))
+            (m : P.State)
             → ShowsKnown (still self.old.tid (P.owners self.old.pages) self.old.space.now.entries)
-            (P.fixed self.old.pages) (P.state self.old.pages) (P.pages self.old.pages)
-            self.old.shown self.old.compared fixed m
-            → StoresOrNot result ((answers_of P.places fixed).store m address size value) m
+            (P.fixed self.old.pages, self.old.compared.ghost_name) (P.state self.old.pages)
+            (P.pages self.old.pages)
+            self.old.compared.now.slots self.old.compared.now.blocks fixed m
+            → StoresOrNot result ((answers_of (beside_name P.places) fixed).store m address size
+            value) m
             (ShowsKnown (still self.new.tid (P.owners self.new.pages) self.new.space.now.entries)
-            (P.fixed self.new.pages) (P.state self.new.pages) (P.pages self.new.pages)
-            self.new.shown self.new.compared fixed) }
+            (P.fixed self.new.pages, self.new.compared.ghost_name) (P.state self.new.pages)
+            (P.pages self.new.pages)
+            self.new.compared.now.slots self.new.compared.now.blocks fixed) }
         ensures same { (self.new.shown ≡ self.old.shown) × (self.new.compared ≡ self.old.compared) }
     {
         let slot = self.stored[slot_place(address)];
@@ -400,21 +444,25 @@ impl<'a, P: Pages> Running<'a, P> {
 
     /// No fetch has found this frame any more; whether one had. Mostly it was that of this address.
     #[inline(always)]
-    fn hide(&mut self, address: u32, frame: u32) -> bool
-        ensures free { IsNoCode self.new.shown frame }
-        ensures right { KeepsRight self.old.shown self.old.compared (P.pages self.old.pages)
-            self.new.shown self.new.compared (P.pages self.new.pages) }
+    fn hide(&mut self, frame: u32) -> bool
+        ensures free { IsNoCode self.new.compared.now.slots frame }
+        ensures right { KeepsRight self.old.compared.now.slots self.old.compared.now.blocks
+            (P.pages self.old.pages)
+            self.new.compared.now.slots self.new.compared.now.blocks (P.pages self.new.pages) }
+        ensures name { self.new.compared.ghost_name ≡ self.old.compared.ghost_name }
         ensures still { still self.new.tid (P.owners self.new.pages) self.new.space.now.entries
             ≡ still self.old.tid (P.owners self.old.pages) self.old.space.now.entries }
         ensures pages { self.new.pages ≡ self.old.pages }
         ensures same { (self.new.refused ≡ self.old.refused)
             × (self.new.stored_marks ≡ self.old.stored_marks) }
     {
-        // the mark alone: where it is set `hide_frame` looks at the slots, and changes them too
-        if !self.shown_marks[mark_place(frame)] {
+        if !self.compared.has(frame) {
             return false;
         }
-        hide_frame(&mut self.shown, address, frame)
+        let place = self.compared.place_of(frame);
+        self.compared.hide(place);
+        self.shown[place] = NO_SLOT;
+        true
     }
 
     /// A store finds this frame from now on, unless a fetch has found it: none has any more then.
@@ -423,15 +471,17 @@ impl<'a, P: Pages> Running<'a, P> {
         requires writing { IsWriting access }
         requires frame { frame_for self.old.tid (P.owners self.old.pages)
             self.old.space.now.entries access address ≡ Ok frame }
-        ensures free { IsNoCode self.new.shown frame }
-        ensures right { KeepsRight self.old.shown self.old.compared (P.pages self.old.pages)
-            self.new.shown self.new.compared (P.pages self.new.pages) }
+        ensures free { IsNoCode self.new.compared.now.slots frame }
+        ensures right { KeepsRight self.old.compared.now.slots self.old.compared.now.blocks
+            (P.pages self.old.pages)
+            self.new.compared.now.slots self.new.compared.now.blocks (P.pages self.new.pages) }
+        ensures name { self.new.compared.ghost_name ≡ self.old.compared.ghost_name }
         ensures still { still self.new.tid (P.owners self.new.pages) self.new.space.now.entries
             ≡ still self.old.tid (P.owners self.old.pages) self.old.space.now.entries }
         ensures pages { self.new.pages ≡ self.old.pages }
         ensures refused { self.new.refused ≡ self.old.refused }
     {
-        if self.hide(address, frame) {
+        if self.hide(frame) {
             return;
         }
         keep_frame(&mut self.stored, address, frame);
@@ -449,9 +499,11 @@ impl<'a, P: Pages> Running<'a, P> {
             (P.owners self.old.pages) self.old.space.now.entries access size address }
         ensures aligned { IfSome result (λ frame. address % width size ≡ 0) }
         ensures free { IfSome result
-            (λ frame. IsNoCode self.new.shown frame) }
-        ensures right { KeepsRight self.old.shown self.old.compared (P.pages self.old.pages)
-            self.new.shown self.new.compared (P.pages self.new.pages) }
+            (λ frame. IsNoCode self.new.compared.now.slots frame) }
+        ensures right { KeepsRight self.old.compared.now.slots self.old.compared.now.blocks
+            (P.pages self.old.pages)
+            self.new.compared.now.slots self.new.compared.now.blocks (P.pages self.new.pages) }
+        ensures name { self.new.compared.ghost_name ≡ self.old.compared.ghost_name }
         ensures still { still self.new.tid (P.owners self.new.pages) self.new.space.now.entries
             ≡ still self.old.tid (P.owners self.old.pages) self.old.space.now.entries }
         ensures pages { self.new.pages ≡ self.old.pages }
@@ -478,9 +530,11 @@ impl<'a, P: Pages> Running<'a, P> {
         ensures home { IfSome result (λ frame. IsPageHere (P.pages self.new.pages) frame) }
         ensures own { IfSome result (λ frame. P.is_own self.new.pages frame ≡ true) }
         ensures free { IfSome result
-            (λ frame. IsNoCode self.new.shown frame) }
-        ensures right { KeepsRight self.old.shown self.old.compared (P.pages self.old.pages)
-            self.new.shown self.new.compared (P.pages self.new.pages) }
+            (λ frame. IsNoCode self.new.compared.now.slots frame) }
+        ensures right { KeepsRight self.old.compared.now.slots self.old.compared.now.blocks
+            (P.pages self.old.pages)
+            self.new.compared.now.slots self.new.compared.now.blocks (P.pages self.new.pages) }
+        ensures name { self.new.compared.ghost_name ≡ self.old.compared.ghost_name }
         ensures still { still self.new.tid (P.owners self.new.pages) self.new.space.now.entries
             ≡ still self.old.tid (P.owners self.old.pages) self.old.space.now.entries }
         ensures pages { self.new.pages ≡ self.old.pages }
@@ -522,7 +576,7 @@ impl<'a, P: Pages> Running<'a, P> {
     #[inline(always)]
     fn write(&mut self, frame: u32, address: u32, size: Size, value: u32) -> bool
         requires own { P.is_own self.old.pages frame ≡ true }
-        requires free { IsNoCode self.old.shown frame }
+        requires free { IsNoCode self.old.compared.now.slots frame }
         requires aligned { address % width size ≡ 0 }
         ensures stored { result ≡ true
             → (P.places (P.fixed self.old.pages)).write (P.state self.old.pages)
@@ -532,8 +586,10 @@ impl<'a, P: Pages> Running<'a, P> {
             → (P.places (P.fixed self.old.pages)).write (P.state self.old.pages)
             (flat_place frame address) (bytes_of (width size) value) ≡ None }
         ensures state { result ≡ false → P.state self.new.pages ≡ P.state self.old.pages }
-        ensures right { KeepsRight self.old.shown self.old.compared (P.pages self.old.pages)
-            self.new.shown self.new.compared (P.pages self.new.pages) }
+        ensures right { KeepsRight self.old.compared.now.slots self.old.compared.now.blocks
+            (P.pages self.old.pages)
+            self.new.compared.now.slots self.new.compared.now.blocks (P.pages self.new.pages) }
+        ensures name { self.new.compared.ghost_name ≡ self.old.compared.ghost_name }
         ensures still { still self.new.tid (P.owners self.new.pages) self.new.space.now.entries
             ≡ still self.old.tid (P.owners self.old.pages) self.old.space.now.entries }
         ensures fixed { P.fixed self.new.pages ≡ P.fixed self.old.pages }
@@ -545,15 +601,17 @@ impl<'a, P: Pages> Running<'a, P> {
 
 impl<'a, P: Pages> Memory for Running<'a, P> {
     ghost use Rattle.std.specs.Prelude.{List, Option, ℕ};
+    ghost use Rattle.std.specs.Borrow.{GName};
 
-    ghost Fixed = { (Still × P.Fixed) × List (Option (List ℕ)) };
+    ghost Fixed = { (Still × (P.Fixed × GName)) × List (Option (List ℕ)) };
 
     ghost State = { P.State };
 
-    ghost answers = { answers_of P.places };
+    ghost answers = { answers_of (beside_name P.places) };
 
     ghost shows = { λ m. ShowsKnown (still m.tid (P.owners m.pages) m.space.now.entries)
-        (P.fixed m.pages) (P.state m.pages) (P.pages m.pages) m.shown m.compared };
+        (P.fixed m.pages, m.compared.ghost_name) (P.state m.pages) (P.pages m.pages)
+        m.compared.now.slots m.compared.now.blocks };
 
     fn fetch_half(&mut self, address: u32) -> Result<u16, Reason> {
         if !Size::Half.is_aligned(address) {

@@ -1,3 +1,4 @@
+use Rattle.std.specs.Borrow.{GName}
 use Rattle.std.proofs.Common.{ℕ, ◌-◌, ◌≤◌, List, Option, arith}
 use Rattle.dos_world.specs.World.{Registers, with_pc}
 use Rattle.code_pages.specs.Lines.{Known, bytes_of_pages}
@@ -12,13 +13,15 @@ use Rattle.quantum_run.proofs.flight.fly.Goals as goal
 
 -- what a memory shows
 abbrev shown : (g : given.Over) → Running g.row.P.Denot g.P.Pages
-    → (Still × g.P.Pages.Fixed) × List (Option (List ℕ)) → g.P.Pages.State → Type 0
+    → (Still × (g.P.Pages.Fixed × GName)) × List (Option (List ℕ)) → g.P.Pages.State → Type 0
 shown g m = ShowsKnown (still m.tid (g.P.Pages.owners m.pages) m.space.now.entries)
-    (g.P.Pages.fixed m.pages) (g.P.Pages.state m.pages) (g.P.Pages.pages m.pages) m.shown m.compared
+    (g.P.Pages.fixed m.pages, m.compared.ghost_name) (g.P.Pages.state m.pages)
+    (g.P.Pages.pages m.pages) m.compared.now.slots m.compared.now.blocks
 
 -- and what it answers
-abbrev answers : (g : given.Over) → Still × g.P.Pages.Fixed → MemoryAnswers g.P.Pages.State
-answers g f = run_answers f.0 (g.P.Pages.places f.1)
+abbrev answers : (g : given.Over) → Still × (g.P.Pages.Fixed × GName)
+    → MemoryAnswers g.P.Pages.State
+answers g f = run_answers f.0 (g.P.Pages.places f.1.0)
 
 pub loop-leg-init : goal.loop-leg-init
 loop-leg-init g c = (
@@ -31,12 +34,12 @@ loop-leg-init g c = (
 -- one leg more
 leg-more : (g : given.Over) (before after : Running g.row.P.Denot g.P.Pages) (r r' : Registers)
     (code : Known) (pc to budget left more : ℕ) → more ≤ left → left ≤ budget
-    → ((f : Still × g.P.Pages.Fixed) (u : g.P.Pages.State)
+    → ((f : Still × (g.P.Pages.Fixed × GName)) (u : g.P.Pages.State)
     → shown g before (f, bytes_of_pages code) u
     → Reaches (answers g f) (shown g after (f, bytes_of_pages code)) (with_pc r pc) u
     (with_pc r' to)
     (left - more))
-    → (f : Still × g.P.Pages.Fixed) (r0 : Registers) (u : g.P.Pages.State)
+    → (f : Still × (g.P.Pages.Fixed × GName)) (r0 : Registers) (u : g.P.Pages.State)
     → Reaches (answers g f) (shown g before (f, bytes_of_pages code)) r0 u (with_pc r pc)
     (budget - left)
     → Reaches (answers g f) (shown g after (f, bytes_of_pages code)) r0 u (with_pc r' to)

@@ -1,3 +1,4 @@
+use Rattle.std.specs.Borrow.{GName}
 use Rattle.std.proofs.Common.{◌-◌, ◌≤◌}
 use Rattle.dos_world.specs.World.{with_pc}
 use Rattle.code_pages.specs.Lines.{bytes_of_pages}
@@ -9,17 +10,19 @@ use Rattle.quantum_run.proofs.flight.fly.Given as goal
 abbrev pub invariant-loop-leg : goal.invariant-loop-leg
 invariant-loop-leg g l =
     (l.left ≤ l.budget)
-    × ((f : Still × g.P.Pages.Fixed) (u : g.P.Pages.State)
+    × ((f : Still × (g.P.Pages.Fixed × GName)) (u : g.P.Pages.State)
     → ShowsKnown
     (still l.fn.memory.tid (g.P.Pages.owners l.fn.memory.pages) l.fn.memory.space.now.entries)
-    (g.P.Pages.fixed l.fn.memory.pages) (g.P.Pages.state l.fn.memory.pages)
-    (g.P.Pages.pages l.fn.memory.pages) l.fn.memory.shown l.fn.memory.compared
+    (g.P.Pages.fixed l.fn.memory.pages, l.fn.memory.compared.ghost_name)
+    (g.P.Pages.state l.fn.memory.pages) (g.P.Pages.pages l.fn.memory.pages)
+    l.fn.memory.compared.now.slots l.fn.memory.compared.now.blocks
     (f, bytes_of_pages l.code) u
-    → Reaches (run_answers f.0 (g.P.Pages.places f.1)) (ShowsKnown
+    → Reaches (run_answers f.0 (g.P.Pages.places f.1.0)) (ShowsKnown
     (still l.memory.tid (g.P.Pages.owners l.memory.pages) l.memory.space.now.entries)
-    (g.P.Pages.fixed l.memory.pages) (g.P.Pages.state l.memory.pages)
-    (g.P.Pages.pages l.memory.pages) l.memory.shown l.memory.compared (f, bytes_of_pages l.code))
-    (with_pc l.fn.regs l.fn.pc) u (with_pc l.regs l.pc) (l.budget - l.left))
+    (g.P.Pages.fixed l.memory.pages, l.memory.compared.ghost_name) (g.P.Pages.state l.memory.pages)
+    (g.P.Pages.pages l.memory.pages) l.memory.compared.now.slots l.memory.compared.now.blocks
+    (f, bytes_of_pages l.code)) (with_pc l.fn.regs l.fn.pc) u (with_pc l.regs l.pc)
+    (l.budget - l.left))
 
 abbrev pub decreases-loop-leg : goal.decreases-loop-leg
 decreases-loop-leg g l = l.left

@@ -1,7 +1,8 @@
+use Rattle.std.specs.Borrow.{GName}
 use Rattle.std.proofs.Common.{ℕ, ◌+◌, ◌≡◌, ◌/◌, ◌%◌, ◌*◌, ◌^◌, ◌∙◌, List, Option, ap, arith, refl}
 use Rattle.std.proofs.Common.{Bool, inr, length, subst, sym, ◌-◌, ◌<◌, ◌≤◌, ◌⊎◌}
 use Rattle.dos_world.specs.World.{Registers, with_pc}
-use Rattle.code_pages.specs.Lines.{AreRuns, Known, bytes_of_pages}
+use Rattle.code_pages.specs.Lines.{AreRuns, AreStartsOf, Known, bytes_of_pages}
 use Rattle.code_pages.specs.declared.line.Line.{Line}
 use Rattle.quantum_run.specs.Flying.{IsLineOf}
 use Rattle.quantum_run.specs.Knowing.{slot_of}
@@ -28,24 +29,32 @@ landed-in shown compared known lines base address at are landed some =
     subst (λ (xs : List Line). IsLineOf shown compared known xs base address at) (sym are)
     (not-left at landed some)
 
+-- where lines begin in a page, which is at its own place
+own-starts : {known : Known} {place own : ℕ} {starts : List ℕ} → place ≡ own
+    → AreStartsOf known place starts → AreStartsOf known own starts
+own-starts {known} {place} {own} {starts} same are =
+    subst (λ k. AreStartsOf known k starts) same are
+
 -- what a memory shows
 abbrev shown : (g : given.Over) → Running g.row.P.Denot g.P.Pages
-    → (Still × g.P.Pages.Fixed) × List (Option (List ℕ)) → g.P.Pages.State → Type 0
+    → (Still × (g.P.Pages.Fixed × GName)) × List (Option (List ℕ)) → g.P.Pages.State → Type 0
 shown g m = ShowsKnown (still m.tid (g.P.Pages.owners m.pages) m.space.now.entries)
-    (g.P.Pages.fixed m.pages) (g.P.Pages.state m.pages) (g.P.Pages.pages m.pages) m.shown m.compared
+    (g.P.Pages.fixed m.pages, m.compared.ghost_name) (g.P.Pages.state m.pages)
+    (g.P.Pages.pages m.pages) m.compared.now.slots m.compared.now.blocks
 
 -- and what it answers
-abbrev answers : (g : given.Over) → Still × g.P.Pages.Fixed → MemoryAnswers g.P.Pages.State
-answers g f = run_answers f.0 (g.P.Pages.places f.1)
+abbrev answers : (g : given.Over) → Still × (g.P.Pages.Fixed × GName)
+    → MemoryAnswers g.P.Pages.State
+answers g f = run_answers f.0 (g.P.Pages.places f.1.0)
 
 -- what the lines of a run led to, behind what came before
 run-more : (g : given.Over) (before after : Running g.row.P.Denot g.P.Pages) (r r' : Registers)
     (code : Known) (base pc to budget left more : ℕ) → more ≤ left → left ≤ budget
-    → ((f : Still × g.P.Pages.Fixed) (u : g.P.Pages.State)
+    → ((f : Still × (g.P.Pages.Fixed × GName)) (u : g.P.Pages.State)
     → shown g before (f, bytes_of_pages code) u
     → ReachesIn base (answers g f) (shown g after (f, bytes_of_pages code)) (with_pc r pc) u
     (with_pc r' to) (left - more))
-    → (f : Still × g.P.Pages.Fixed) (r0 : Registers) (u : g.P.Pages.State)
+    → (f : Still × (g.P.Pages.Fixed × GName)) (r0 : Registers) (u : g.P.Pages.State)
     → Reaches (answers g f) (shown g before (f, bytes_of_pages code)) r0 u (with_pc r pc)
     (budget - left) × ((stops : List ℕ) → AreOutside stops base
     → AreElsewhere (answers g f) stops (budget - left) r0 u)
@@ -76,8 +85,18 @@ returns-then-not-is_shown_at-clause-reaches g c = λ f u shows.
           (omega arith);
     }
 
-pub loop-lines-init : goal.loop-lines-init
-loop-lines-init g c =
+pub returns-in_default-clause-reaches : goal.returns-in_default-clause-reaches
+returns-in_default-clause-reaches g c = λ f u shows.
+    let begun = with_pc c.args.regs.now c.args.pc in
+    record {
+      reaches = reaches-none (answers g f) begun u _ (c.args.budget - c.args.budget) (omega arith)
+          shows;
+      outside = λ stops out. none-made (answers g f) stops begun u (c.args.budget - c.args.budget)
+          (omega arith);
+    }
+
+pub loop-starts-init : goal.loop-starts-init
+loop-starts-init g c =
     let even = c.is_shown_at.ensures.even c.if-not-is_shown_at.false in
     let here : c.args.pc ≡ (c.args.pc / 4096 * 4096 + c.args.pc % 4096) % 2 ^ 32 =
     omega (arith, c.ranges.pc.fits) in (
@@ -100,11 +119,10 @@ loop-lines-init g c =
 
 pub landing-at-requires : goal.landing-at-requires
 landing-at-requires g c =
-    let i = c.loop-lines.invariant in
+    let i = c.loop-starts.invariant in
     let base : ℕ = c.args.pc / 4096 * 4096 in
     let number : base / 4096 ≡ c.args.pc / 4096 = omega arith in
     record {
-      known = c.lines-lines.ensures.known;
       found = ap (λ (s : List Slot). (slot_of s base).start) i.1
           ∙ ap (λ k. (slice_index_or c.args.memory.now.shown (k % 64) empty_slot).start) number
           ∙ c.is_shown_at.ensures.found c.if-not-is_shown_at.false;
@@ -115,12 +133,13 @@ landing-at-requires g c =
 
 pub line_in-requires : goal.line_in-requires
 line_in-requires g c =
-    let m = c.loop-lines.memory in
+    let m = c.loop-starts.memory in
     let k = c.args.code.now in
-    let a = (c.args.pc / 4096 * 4096 + c.loop-lines.to) % 2 ^ 32 in
-    let here = placed m.shown m.compared k k.lines (c.args.pc / 4096 * 4096) a c.landing-at.result
-    (not-none c.landing-at.result c.if-at-eq0.false)
-    (not-left c.landing-at.result c.landing-at.ensures c.if-at-eq0.false) in
+    let a = (c.args.pc / 4096 * 4096 + c.loop-starts.to) % 2 ^ 32 in
+    let here = placed m.shown m.compared.now.blocks k k.lines (c.args.pc / 4096 * 4096) a
+    c.landing-at.result (not-none c.landing-at.result c.if-at-eq0.false)
+    (not-left c.landing-at.result (c.landing-at.ensures c.args.code.now c.lines-lines.ensures.known
+    (own-starts c.code_place.ensures.place c.in-Some.ensures)) c.if-at-eq0.false) in
     subst (λ (xs : List Line). c.landing-at.result < length xs) (sym c.lines-lines.ensures.lines)
     (got-within k.lines c.landing-at.result here.0 here.1)
 
@@ -143,22 +162,23 @@ part_of_run-gone-requires g c = record {
   there = record { line = c.line_in.result.now; is = c.line_in.ensures };
 }
 
-pub loop-lines-preserved : goal.loop-lines-preserved
-loop-lines-preserved g c =
-    let i = c.loop-lines.invariant in
-    let m = c.loop-lines.memory in
+pub loop-starts-preserved : goal.loop-starts-preserved
+loop-starts-preserved g c =
+    let i = c.loop-starts.invariant in
+    let m = c.loop-starts.memory in
     let n = c.follow-gone.new.memory in
-    let a = (c.args.pc / 4096 * 4096 + c.loop-lines.to) % 2 ^ 32 in
-    let landed = landed-in m.shown m.compared c.args.code.now c.lines-lines.result.now
+    let a = (c.args.pc / 4096 * 4096 + c.loop-starts.to) % 2 ^ 32 in
+    let landed = landed-in m.shown m.compared.now.blocks c.args.code.now c.lines-lines.result.now
     (c.args.pc / 4096 * 4096) a c.landing-at.result c.lines-lines.ensures.lines
-    c.landing-at.ensures c.if-at-eq0.false in (
+    (c.landing-at.ensures c.args.code.now c.lines-lines.ensures.known
+    (own-starts c.code_place.ensures.place c.in-Some.ensures)) c.if-at-eq0.false in (
       omega (arith, i.0, c.follow-gone.ensures.within),
       c.follow-gone.ensures.same.0 ∙ i.1,
       c.follow-gone.ensures.same.1 ∙ i.2,
       λ f u shows.
-          let x = run-more g m n c.loop-lines.regs c.follow-gone.new.regs c.args.code.now
+          let x = run-more g m n c.loop-starts.regs c.follow-gone.new.regs c.args.code.now
           (c.args.pc / 4096 * 4096) a ((c.args.pc / 4096 * 4096 + c.follow-gone.result.to) % 2 ^ 32)
-          c.args.budget c.loop-lines.left c.follow-gone.result.left c.follow-gone.ensures.within
+          c.args.budget c.loop-starts.left c.follow-gone.result.left c.follow-gone.ensures.within
           i.0 (λ h v x. c.follow-gone.ensures.reaches c.args.code.now a h v landed x) f
           (with_pc c.args.regs.now c.args.pc) u (i.3 f u shows) in (x.reaches, x.outside),
       (c.is_place.ensures c.if-not-is_place.false).0,
@@ -167,98 +187,104 @@ loop-lines-preserved g c =
 
 pub returns-then-at-eq0-clause-reaches : goal.returns-then-at-eq0-clause-reaches
 returns-then-at-eq0-clause-reaches g c = λ f u shows.
-    let r = c.loop-lines.invariant.3 f u shows in
+    let r = c.loop-starts.invariant.3 f u shows in
     record { reaches = r.0; outside = r.1 }
 
 pub returns-then-left-from-clause-reaches : goal.returns-then-left-from-clause-reaches
 returns-then-left-from-clause-reaches g c = λ f u shows.
-    let i = c.loop-lines.invariant in
-    let m = c.loop-lines.memory in
+    let i = c.loop-starts.invariant in
+    let m = c.loop-starts.memory in
     let n = c.part_of_run-gone.new.memory in
-    let a = (c.args.pc / 4096 * 4096 + c.loop-lines.to) % 2 ^ 32 in
-    let landed = landed-in m.shown m.compared c.args.code.now c.lines-lines.result.now
+    let a = (c.args.pc / 4096 * 4096 + c.loop-starts.to) % 2 ^ 32 in
+    let landed = landed-in m.shown m.compared.now.blocks c.args.code.now c.lines-lines.result.now
     (c.args.pc / 4096 * 4096) a c.landing-at.result c.lines-lines.ensures.lines
-    c.landing-at.ensures c.if-at-eq0.false in
-    run-more g m n c.loop-lines.regs c.part_of_run-gone.new.regs c.args.code.now
+    (c.landing-at.ensures c.args.code.now c.lines-lines.ensures.known
+    (own-starts c.code_place.ensures.place c.in-Some.ensures)) c.if-at-eq0.false in
+    run-more g m n c.loop-starts.regs c.part_of_run-gone.new.regs c.args.code.now
     (c.args.pc / 4096 * 4096) a ((c.args.pc / 4096 * 4096 + c.part_of_run-gone.result.to) % 2 ^ 32)
-    c.args.budget c.loop-lines.left c.part_of_run-gone.result.left
+    c.args.budget c.loop-starts.left c.part_of_run-gone.result.left
     c.part_of_run-gone.ensures.within i.0
     (λ h v x. c.part_of_run-gone.ensures.reaches c.args.code.now a h v landed x) f
     (with_pc c.args.regs.now c.args.pc) u (i.3 f u shows)
 
 pub returns-then-gone-left-clause-reaches : goal.returns-then-gone-left-clause-reaches
 returns-then-gone-left-clause-reaches g c = λ f u shows.
-    let i = c.loop-lines.invariant in
-    let m = c.loop-lines.memory in
+    let i = c.loop-starts.invariant in
+    let m = c.loop-starts.memory in
     let n = c.part_of_run-gone.new.memory in
-    let a = (c.args.pc / 4096 * 4096 + c.loop-lines.to) % 2 ^ 32 in
+    let a = (c.args.pc / 4096 * 4096 + c.loop-starts.to) % 2 ^ 32 in
     let to = (c.args.pc / 4096 * 4096 + c.part_of_run-gone.result.to) % 2 ^ 32 in
-    let landed = landed-in m.shown m.compared c.args.code.now c.lines-lines.result.now
+    let landed = landed-in m.shown m.compared.now.blocks c.args.code.now c.lines-lines.result.now
     (c.args.pc / 4096 * 4096) a c.landing-at.result c.lines-lines.ensures.lines
-    c.landing-at.ensures c.if-at-eq0.false in
+    (c.landing-at.ensures c.args.code.now c.lines-lines.ensures.known
+    (own-starts c.code_place.ensures.place c.in-Some.ensures)) c.if-at-eq0.false in
     subst (λ k. ReachesIn (c.args.pc / 4096 * 4096) (answers g f)
     (shown g n (f, bytes_of_pages c.args.code.now)) (with_pc c.args.regs.now c.args.pc) u
     (with_pc c.part_of_run-gone.new.regs to) (c.args.budget - k)) c.if-gone-left.true
-    (run-more g m n c.loop-lines.regs c.part_of_run-gone.new.regs c.args.code.now
-    (c.args.pc / 4096 * 4096) a to c.args.budget c.loop-lines.left c.part_of_run-gone.result.left
+    (run-more g m n c.loop-starts.regs c.part_of_run-gone.new.regs c.args.code.now
+    (c.args.pc / 4096 * 4096) a to c.args.budget c.loop-starts.left c.part_of_run-gone.result.left
     c.part_of_run-gone.ensures.within i.0
     (λ h v x. c.part_of_run-gone.ensures.reaches c.args.code.now a h v landed x) f
     (with_pc c.args.regs.now c.args.pc) u (i.3 f u shows))
 
 pub returns-then-gone-left-clause-line : goal.returns-then-gone-left-clause-line
 returns-then-gone-left-clause-line g c =
-    let m = c.loop-lines.memory in
+    let m = c.loop-starts.memory in
     let e = c.part_of_run-gone.ensures in
     let n = c.part_of_run-gone.new.memory in
-    inr (stays-there m.shown n.shown m.compared n.compared c.args.code.now c.lines-lines.result.now
-    (c.args.pc / 4096 * 4096) c.loop-lines.to c.part_of_run-gone.result.to _ c.landing-at.result
-    c.line_in.result.now (not-none c.landing-at.result c.if-at-eq0.false) e.same.0 e.same.1
-    c.lines-lines.ensures.lines (not-left c.landing-at.result c.landing-at.ensures
-    c.if-at-eq0.false) c.line_in.ensures (e.stays c.line_in.result.now c.line_in.ensures
-    c.if-gone-left.true) refl)
+    inr (stays-there m.shown n.shown m.compared.now.blocks n.compared.now.blocks c.args.code.now
+    c.lines-lines.result.now (c.args.pc / 4096 * 4096) c.loop-starts.to c.part_of_run-gone.result.to
+    _ c.landing-at.result c.line_in.result.now (not-none c.landing-at.result c.if-at-eq0.false)
+    e.same.0 (ap (λ x. x.now.blocks) e.same.1) c.lines-lines.ensures.lines
+    (not-left c.landing-at.result (c.landing-at.ensures c.args.code.now c.lines-lines.ensures.known
+    (own-starts c.code_place.ensures.place c.in-Some.ensures)) c.if-at-eq0.false) c.line_in.ensures
+    (e.stays c.line_in.result.now c.line_in.ensures c.if-gone-left.true) refl)
 
 pub returns-then-gone-left-2-clause-line : goal.returns-then-gone-left-2-clause-line
 returns-then-gone-left-2-clause-line g c =
-    let m = c.loop-lines.memory in
+    let m = c.loop-starts.memory in
     let e = c.follow-gone.ensures in
     let n = c.follow-gone.new.memory in
-    inr (stays-there m.shown n.shown m.compared n.compared c.args.code.now c.lines-lines.result.now
-    (c.args.pc / 4096 * 4096) c.loop-lines.to c.follow-gone.result.to _ c.landing-at.result
-    c.line_in.result.now (not-none c.landing-at.result c.if-at-eq0.false) e.same.0 e.same.1
-    c.lines-lines.ensures.lines (not-left c.landing-at.result c.landing-at.ensures
-    c.if-at-eq0.false) c.line_in.ensures (e.stays c.line_in.result.now c.line_in.ensures
-    c.if-gone-left-2.true) refl)
+    inr (stays-there m.shown n.shown m.compared.now.blocks n.compared.now.blocks c.args.code.now
+    c.lines-lines.result.now (c.args.pc / 4096 * 4096) c.loop-starts.to c.follow-gone.result.to _
+    c.landing-at.result c.line_in.result.now (not-none c.landing-at.result c.if-at-eq0.false)
+    e.same.0 (ap (λ x. x.now.blocks) e.same.1) c.lines-lines.ensures.lines
+    (not-left c.landing-at.result (c.landing-at.ensures c.args.code.now c.lines-lines.ensures.known
+    (own-starts c.code_place.ensures.place c.in-Some.ensures)) c.if-at-eq0.false) c.line_in.ensures
+    (e.stays c.line_in.result.now c.line_in.ensures c.if-gone-left-2.true) refl)
 
 pub returns-then-gone-left-2-clause-reaches : goal.returns-then-gone-left-2-clause-reaches
 returns-then-gone-left-2-clause-reaches g c = λ f u shows.
-    let i = c.loop-lines.invariant in
-    let m = c.loop-lines.memory in
+    let i = c.loop-starts.invariant in
+    let m = c.loop-starts.memory in
     let n = c.follow-gone.new.memory in
-    let a = (c.args.pc / 4096 * 4096 + c.loop-lines.to) % 2 ^ 32 in
+    let a = (c.args.pc / 4096 * 4096 + c.loop-starts.to) % 2 ^ 32 in
     let to = (c.args.pc / 4096 * 4096 + c.follow-gone.result.to) % 2 ^ 32 in
-    let landed = landed-in m.shown m.compared c.args.code.now c.lines-lines.result.now
+    let landed = landed-in m.shown m.compared.now.blocks c.args.code.now c.lines-lines.result.now
     (c.args.pc / 4096 * 4096) a c.landing-at.result c.lines-lines.ensures.lines
-    c.landing-at.ensures c.if-at-eq0.false in
+    (c.landing-at.ensures c.args.code.now c.lines-lines.ensures.known
+    (own-starts c.code_place.ensures.place c.in-Some.ensures)) c.if-at-eq0.false in
     subst (λ k. ReachesIn (c.args.pc / 4096 * 4096) (answers g f)
     (shown g n (f, bytes_of_pages c.args.code.now)) (with_pc c.args.regs.now c.args.pc) u
     (with_pc c.follow-gone.new.regs to) (c.args.budget - k)) c.if-gone-left-2.true
-    (run-more g m n c.loop-lines.regs c.follow-gone.new.regs c.args.code.now
-    (c.args.pc / 4096 * 4096) a to c.args.budget c.loop-lines.left c.follow-gone.result.left
+    (run-more g m n c.loop-starts.regs c.follow-gone.new.regs c.args.code.now
+    (c.args.pc / 4096 * 4096) a to c.args.budget c.loop-starts.left c.follow-gone.result.left
     c.follow-gone.ensures.within i.0
     (λ h v x. c.follow-gone.ensures.reaches c.args.code.now a h v landed x) f
     (with_pc c.args.regs.now c.args.pc) u (i.3 f u shows))
 
 pub returns-then-not-is_place-clause-reaches : goal.returns-then-not-is_place-clause-reaches
 returns-then-not-is_place-clause-reaches g c = λ f u shows.
-    let i = c.loop-lines.invariant in
-    let m = c.loop-lines.memory in
+    let i = c.loop-starts.invariant in
+    let m = c.loop-starts.memory in
     let n = c.follow-gone.new.memory in
-    let a = (c.args.pc / 4096 * 4096 + c.loop-lines.to) % 2 ^ 32 in
-    let landed = landed-in m.shown m.compared c.args.code.now c.lines-lines.result.now
+    let a = (c.args.pc / 4096 * 4096 + c.loop-starts.to) % 2 ^ 32 in
+    let landed = landed-in m.shown m.compared.now.blocks c.args.code.now c.lines-lines.result.now
     (c.args.pc / 4096 * 4096) a c.landing-at.result c.lines-lines.ensures.lines
-    c.landing-at.ensures c.if-at-eq0.false in
-    run-more g m n c.loop-lines.regs c.follow-gone.new.regs c.args.code.now
+    (c.landing-at.ensures c.args.code.now c.lines-lines.ensures.known
+    (own-starts c.code_place.ensures.place c.in-Some.ensures)) c.if-at-eq0.false in
+    run-more g m n c.loop-starts.regs c.follow-gone.new.regs c.args.code.now
     (c.args.pc / 4096 * 4096) a ((c.args.pc / 4096 * 4096 + c.follow-gone.result.to) % 2 ^ 32)
-    c.args.budget c.loop-lines.left c.follow-gone.result.left c.follow-gone.ensures.within i.0
+    c.args.budget c.loop-starts.left c.follow-gone.result.left c.follow-gone.ensures.within i.0
     (λ h v x. c.follow-gone.ensures.reaches c.args.code.now a h v landed x) f
     (with_pc c.args.regs.now c.args.pc) u (i.3 f u shows)

@@ -1,3 +1,4 @@
+use Rattle.std.specs.Borrow.{GName}
 use Rattle.std.proofs.Common.{ℕ, zero, suc, ◌+◌, ◌-◌, ◌≡◌, ◌<◌, ◌≤◌, ◌⊎◌, ◌∙◌, List, Option, Some}
 use Rattle.std.proofs.Common.{None, arith, inl, inr, refl, subst, sym}
 use Rattle.dos_world.specs.World.{Registers, with_pc}
@@ -6,11 +7,10 @@ use Rattle.quantum_run.specs.Finding.{page_start}
 use Rattle.quantum_run.specs.Flying.{IsLineOf}
 use Rattle.flat_machine.specs.Over.{MemoryAnswers}
 use Rattle.quantum_run.specs.Answering.{Still, run_answers, still}
-use Rattle.quantum_run.specs.Showing.{ShowsBy, ShowsKnown}
+use Rattle.quantum_run.specs.Showing.{ShowsKnown}
 use Rattle.quantum_run.specs.ThreadRuns.{Goes, Reaches}
 use Rattle.quantum_run.specs.declared.thread_memory.Running.{Running}
-use Rattle.quantum_run.proofs.Comparing.{right-begun}
-use Rattle.quantum_run.proofs.RunSteps.{goes-shown, goes-stopped, reaches-more, reaches-none}
+use Rattle.quantum_run.proofs.RunSteps.{goes-stopped, reaches-more, reaches-none}
 use Rattle.quantum_run.proofs.RunSteps.{reaches-shown, reaches-then}
 use Rattle.quantum_run.proofs.Walking.{not-none}
 use Rattle.quantum_run.proofs.run.go.Given as given
@@ -20,13 +20,15 @@ use Rattle.quantum_run.proofs.run.go.Goals.{then-loop-left-test+then-left-eq0}
 
 -- what a memory shows
 abbrev shown : (g : given.Over) → Running g.row.P.Denot g.P.Pages
-    → (Still × g.P.Pages.Fixed) × List (Option (List ℕ)) → g.P.Pages.State → Type 0
+    → (Still × (g.P.Pages.Fixed × GName)) × List (Option (List ℕ)) → g.P.Pages.State → Type 0
 shown g m = ShowsKnown (still m.tid (g.P.Pages.owners m.pages) m.space.now.entries)
-    (g.P.Pages.fixed m.pages) (g.P.Pages.state m.pages) (g.P.Pages.pages m.pages) m.shown m.compared
+    (g.P.Pages.fixed m.pages, m.compared.ghost_name) (g.P.Pages.state m.pages)
+    (g.P.Pages.pages m.pages) m.compared.now.slots m.compared.now.blocks
 
 -- and what it answers
-abbrev answers : (g : given.Over) → Still × g.P.Pages.Fixed → MemoryAnswers g.P.Pages.State
-answers g f = run_answers f.0 (g.P.Pages.places f.1)
+abbrev answers : (g : given.Over) → Still × (g.P.Pages.Fixed × GName)
+    → MemoryAnswers g.P.Pages.State
+answers g f = run_answers f.0 (g.P.Pages.places f.1.0)
 
 pub loop-left-init : goal.loop-left-init
 loop-left-init g c =
@@ -36,26 +38,21 @@ loop-left-init g c =
       omega (arith, c.requires.floor),
       λ f u shows.
           let all = shown g m (f, bytes_of_pages c.args.code.now) in
-          let begun : all u = record {
-            shows = shows;
-            right = right-begun m.shown m.compared (g.P.Pages.pages m.pages)
-                (bytes_of_pages c.args.code.now) c.requires.known;
-          } in
           subst (λ p. Reaches (answers g f) all c.args.regs.now u (with_pc c.args.regs.now p) made)
           (sym c.pc-pc.ensures)
           (reaches-none (answers g f) c.args.regs.now u all made (omega (arith, c.requires.floor))
-          begun),
+          shows),
     )
 
 -- what lines led to
 flown-on : (g : given.Over) (before after : Running g.row.P.Denot g.P.Pages) (r r' : Registers)
     (code : Known) (pc to floor budget left more : ℕ) → more ≤ left → floor + left ≤ budget
-    → ((f : Still × g.P.Pages.Fixed) (u : g.P.Pages.State)
+    → ((f : Still × (g.P.Pages.Fixed × GName)) (u : g.P.Pages.State)
     → shown g before (f, bytes_of_pages code) u
     → Reaches (answers g f) (shown g after (f, bytes_of_pages code)) (with_pc r pc) u
     (with_pc r' to)
     (left - more))
-    → (f : Still × g.P.Pages.Fixed) (r0 : Registers) (u : g.P.Pages.State)
+    → (f : Still × (g.P.Pages.Fixed × GName)) (r0 : Registers) (u : g.P.Pages.State)
     → Reaches (answers g f) (shown g before (f, bytes_of_pages code)) r0 u (with_pc r pc)
     (budget - (floor + left))
     → Reaches (answers g f) (shown g after (f, bytes_of_pages code)) r0 u (with_pc r' to)
@@ -70,14 +67,14 @@ flown-on g before after r r' code pc to floor budget left more less within flies
 flown-learnt : (g : given.Over) (before after last : Running g.row.P.Denot g.P.Pages)
     (r r' : Registers) (code known : Known) (pc to floor budget left more : ℕ) → more ≤ left
     → floor + left ≤ budget
-    → ((f : Still × g.P.Pages.Fixed) (u : g.P.Pages.State)
+    → ((f : Still × (g.P.Pages.Fixed × GName)) (u : g.P.Pages.State)
     → shown g before (f, bytes_of_pages code) u
     → Reaches (answers g f) (shown g after (f, bytes_of_pages code)) (with_pc r pc) u
     (with_pc r' to)
     (left - more))
-    → ((f : Still × g.P.Pages.Fixed) (u : g.P.Pages.State)
+    → ((f : Still × (g.P.Pages.Fixed × GName)) (u : g.P.Pages.State)
     → shown g after (f, bytes_of_pages code) u → shown g last (f, bytes_of_pages known) u)
-    → (f : Still × g.P.Pages.Fixed) (r0 : Registers) (u : g.P.Pages.State)
+    → (f : Still × (g.P.Pages.Fixed × GName)) (r0 : Registers) (u : g.P.Pages.State)
     → Reaches (answers g f) (shown g before (f, bytes_of_pages code)) r0 u (with_pc r pc)
     (budget - (floor + left))
     → Reaches (answers g f) (shown g last (f, bytes_of_pages known)) r0 u (with_pc r' to)
@@ -93,21 +90,16 @@ flown-learnt g before after last r r' code known pc to floor budget left more le
 -- a run that comes down to the floor
 comes-down : (g : given.Over) (m : Running g.row.P.Denot g.P.Pages) (code : Known)
     (regs own : Registers) (pc floor budget left : ℕ) → left ≡ 0 → own ≡ with_pc regs pc
-    → (f : Still × g.P.Pages.Fixed) (r0 : Registers) (u : g.P.Pages.State)
+    → (f : Still × (g.P.Pages.Fixed × GName)) (r0 : Registers) (u : g.P.Pages.State)
     → Reaches (answers g f) (shown g m (f, bytes_of_pages code)) r0 u (with_pc regs pc)
     (budget - (floor + left))
-    → Goes (answers g f) (ShowsBy (still m.tid (g.P.Pages.owners m.pages) m.space.now.entries)
-    (g.P.Pages.fixed m.pages) (g.P.Pages.state m.pages) f) r0 u own (budget - floor) None
+    → Goes (answers g f) (shown g m (f, bytes_of_pages code)) r0 u own (budget - floor) None
 comes-down g m code regs own pc floor budget left none is f r0 u reached =
     let all = shown g m (f, bytes_of_pages code) in
     let done : budget - (floor + left) ≡ budget - floor = omega (arith, none) in
-    subst (λ (r : Registers). Goes (answers g f) (ShowsBy
-    (still m.tid (g.P.Pages.owners m.pages) m.space.now.entries)
-    (g.P.Pages.fixed m.pages) (g.P.Pages.state m.pages) f) r0 u r (budget - floor) None) (sym is)
+    subst (λ (r : Registers). Goes (answers g f) all r0 u r (budget - floor) None) (sym is)
     (record {
-      reaches = reaches-shown (answers g f) r0 u all _ (with_pc regs pc) (budget - floor)
-          (λ v s. s.shows)
-          (subst (λ k. Reaches (answers g f) all r0 u (with_pc regs pc) k) done reached);
+      reaches = subst (λ k. Reaches (answers g f) all r0 u (with_pc regs pc) k) done reached;
       stops = tt;
     })
 
@@ -168,23 +160,23 @@ returns-in-None-clause-runs g c = λ f u shows.
     c.loop-left.regs c.fly-flown.new.regs c.loop-left.code c.learns-has_learnt.new.code
     c.loop-left.pc c.fly-flown.result.pc c.args.floor c.args.budget.now c.loop-left.left left
     e.within i.0 e.reaches c.learns-has_learnt.ensures.shows f r0 u (i.1 f u shows)) in
-    goes-shown (answers g f) r0 u new _ _ made (Some c.slowly.new.why) (λ v s. s.shows)
-    (subst (λ (r : Registers). Goes (answers g f) new r0 u r made (Some c.slowly.new.why))
-    (sym c.set_pc.ensures) stopped)
+    subst (λ (r : Registers). Goes (answers g f) new r0 u r made (Some c.slowly.new.why))
+    (sym c.set_pc.ensures) stopped
 
 -- a line that is there is there still, where none is learnt
 still-line : (g : given.Over) (m n : Running g.row.P.Denot g.P.Pages) (code known : Known)
-    (pc at : ℕ) → (at ≡ 0) ⊎ IsLineOf m.shown m.compared code code.lines (page_start pc) pc at
+    (pc at : ℕ)
+    → (at ≡ 0) ⊎ IsLineOf m.shown m.compared.now.blocks code code.lines (page_start pc) pc at
     → (0 < at → (n ≡ m) × (known ≡ code))
-    → (at ≡ 0) ⊎ IsLineOf n.shown n.compared known known.lines (page_start pc) pc at
+    → (at ≡ 0) ⊎ IsLineOf n.shown n.compared.now.blocks known known.lines (page_start pc) pc at
 still-line g m n code known pc zero line same = inl refl
 still-line g m n code known pc (suc at) (inl none) same = inl none
 still-line g m n code known pc (suc at) (inr line) same =
     let s = same (omega arith) in
-    inr (subst (λ (x : Running g.row.P.Denot g.P.Pages). IsLineOf x.shown x.compared known
-    known.lines (page_start pc) pc (suc at)) (sym s.0)
-    (subst (λ (k : Known). IsLineOf m.shown m.compared k k.lines (page_start pc) pc (suc at))
-    (sym s.1) line))
+    inr (subst (λ (x : Running g.row.P.Denot g.P.Pages). IsLineOf x.shown x.compared.now.blocks
+    known known.lines (page_start pc) pc (suc at)) (sym s.0)
+    (subst (λ (k : Known). IsLineOf m.shown m.compared.now.blocks k k.lines (page_start pc) pc
+    (suc at)) (sym s.1) line))
 
 pub slowly-requires : goal.slowly-requires
 slowly-requires g c =
@@ -195,7 +187,7 @@ slowly-requires g c =
 -- where a run is, by other names
 moved : (g : given.Over) (m m' : Running g.row.P.Denot g.P.Pages) (r r' : Registers)
     (pc pc' left left' budget floor : ℕ) (code : Known) → m' ≡ m → r' ≡ r → pc' ≡ pc
-    → left' ≡ left → (f : Still × g.P.Pages.Fixed) (r0 : Registers) (u : g.P.Pages.State)
+    → left' ≡ left → (f : Still × (g.P.Pages.Fixed × GName)) (r0 : Registers) (u : g.P.Pages.State)
     → Reaches (answers g f) (shown g m (f, bytes_of_pages code)) r0 u (with_pc r pc)
     (budget - (floor + left))
     → Reaches (answers g f) (shown g m' (f, bytes_of_pages code)) r0 u (with_pc r' pc')

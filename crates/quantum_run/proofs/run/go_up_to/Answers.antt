@@ -1,3 +1,4 @@
+use Rattle.std.specs.Borrow.{GName}
 use Rattle.std.proofs.Common.{ℕ, ◌+◌, ◌-◌, ◌<◌, ◌≤◌, ◌≡◌, ◌∙◌, inl, inr, List, Option, Some}
 use Rattle.std.proofs.Common.{None, ap, arith}
 use Rattle.std.proofs.Common.{refl, subst, sym}
@@ -5,14 +6,13 @@ use Rattle.dos_world.specs.World.{Registers, with_pc}
 use Rattle.code_pages.specs.Lines.{Known, bytes_of_pages}
 use Rattle.flat_machine.specs.Over.{MemoryAnswers}
 use Rattle.quantum_run.specs.Answering.{Still, run_answers, still}
-use Rattle.quantum_run.specs.Showing.{ShowsBy, ShowsKnown}
+use Rattle.quantum_run.specs.Showing.{ShowsKnown}
 use Rattle.quantum_run.specs.ThreadRuns.{Goes, Reaches}
 use Rattle.quantum_run.specs.declared.thread_memory.Running.{Running}
 use Rattle.quantum_run.specs.ThreadRuns.{AreElsewhere, is_stop_at}
-use Rattle.quantum_run.proofs.Comparing.{right-begun}
 use Rattle.quantum_run.proofs.Elsewhere.{none-made, one-elsewhere, then-elsewhere}
-use Rattle.quantum_run.proofs.RunSteps.{goes-shown, goes-stopped, reaches-more, reaches-none}
-use Rattle.quantum_run.proofs.RunSteps.{reaches-shown, reaches-then}
+use Rattle.quantum_run.proofs.RunSteps.{goes-stopped, reaches-more, reaches-none}
+use Rattle.quantum_run.proofs.RunSteps.{reaches-then}
 use Rattle.quantum_run.proofs.Walking.{not-none}
 use Rattle.quantum_run.proofs.run.go_up_to.Given as given
 use Rattle.quantum_run.proofs.run.go_up_to.Goals as goal
@@ -21,13 +21,15 @@ use Rattle.quantum_run.proofs.run.go_up_to.Goals.{then-loop-left-test+then-left-
 
 -- what a memory shows
 abbrev shown : (g : given.Over) → Running g.row.P.Denot g.P.Pages
-    → (Still × g.P.Pages.Fixed) × List (Option (List ℕ)) → g.P.Pages.State → Type 0
+    → (Still × (g.P.Pages.Fixed × GName)) × List (Option (List ℕ)) → g.P.Pages.State → Type 0
 shown g m = ShowsKnown (still m.tid (g.P.Pages.owners m.pages) m.space.now.entries)
-    (g.P.Pages.fixed m.pages) (g.P.Pages.state m.pages) (g.P.Pages.pages m.pages) m.shown m.compared
+    (g.P.Pages.fixed m.pages, m.compared.ghost_name) (g.P.Pages.state m.pages)
+    (g.P.Pages.pages m.pages) m.compared.now.slots m.compared.now.blocks
 
 -- and what it answers
-abbrev answers : (g : given.Over) → Still × g.P.Pages.Fixed → MemoryAnswers g.P.Pages.State
-answers g f = run_answers f.0 (g.P.Pages.places f.1)
+abbrev answers : (g : given.Over) → Still × (g.P.Pages.Fixed × GName)
+    → MemoryAnswers g.P.Pages.State
+answers g f = run_answers f.0 (g.P.Pages.places f.1.0)
 
 pub loop-left-init : goal.loop-left-init
 loop-left-init g c =
@@ -36,15 +38,10 @@ loop-left-init g c =
     let made = budget - budget in (
       omega arith,
       λ f u shows.
-          let all = shown g m (f, bytes_of_pages c.args.code.now) in
-          let begun : all u = record {
-            shows = shows;
-            right = right-begun m.shown m.compared (g.P.Pages.pages m.pages)
-                (bytes_of_pages c.args.code.now) c.requires.known;
-          } in (
+          let all = shown g m (f, bytes_of_pages c.args.code.now) in (
             subst (λ p. Reaches (answers g f) all c.args.regs.now u (with_pc c.args.regs.now p)
                 made) (sym c.pc-pc.ensures)
-                (reaches-none (answers g f) c.args.regs.now u all made (omega arith) begun),
+                (reaches-none (answers g f) c.args.regs.now u all made (omega arith) shows),
             none-made (answers g f) c.args.stops.now c.args.regs.now u made (omega arith),
           ),
     )
@@ -53,15 +50,15 @@ loop-left-init g c =
 flown-between : (g : given.Over) (before after : Running g.row.P.Denot g.P.Pages)
     (r r' : Registers) (code : Known) (stops : List ℕ) (pc to budget left more : ℕ) → more ≤ left
     → left ≤ budget
-    → ((f : Still × g.P.Pages.Fixed) (u : g.P.Pages.State)
+    → ((f : Still × (g.P.Pages.Fixed × GName)) (u : g.P.Pages.State)
     → shown g before (f, bytes_of_pages code) u
     → Reaches (answers g f) (shown g after (f, bytes_of_pages code)) (with_pc r pc) u
     (with_pc r' to)
     (left - more))
-    → ((f : Still × g.P.Pages.Fixed) (u : g.P.Pages.State)
+    → ((f : Still × (g.P.Pages.Fixed × GName)) (u : g.P.Pages.State)
     → shown g before (f, bytes_of_pages code) u
     → AreElsewhere (answers g f) stops (left - more) (with_pc r pc) u)
-    → (f : Still × g.P.Pages.Fixed) (r0 : Registers) (u : g.P.Pages.State)
+    → (f : Still × (g.P.Pages.Fixed × GName)) (r0 : Registers) (u : g.P.Pages.State)
     → Reaches (answers g f) (shown g before (f, bytes_of_pages code)) r0 u (with_pc r pc)
     (budget - left) × AreElsewhere (answers g f) stops (budget - left) r0 u
     → Reaches (answers g f) (shown g after (f, bytes_of_pages code)) r0 u (with_pc r' to)
@@ -80,7 +77,7 @@ flown-between g before after r r' code stops pc to budget left more less within 
 -- where a run is, by other names
 moved : (g : given.Over) (m m' : Running g.row.P.Denot g.P.Pages) (r r' : Registers)
     (pc pc' left left' budget : ℕ) (code : Known) → m' ≡ m → r' ≡ r → pc' ≡ pc
-    → left' ≡ left → (f : Still × g.P.Pages.Fixed) (r0 : Registers) (u : g.P.Pages.State)
+    → left' ≡ left → (f : Still × (g.P.Pages.Fixed × GName)) (r0 : Registers) (u : g.P.Pages.State)
     → Reaches (answers g f) (shown g m (f, bytes_of_pages code)) r0 u (with_pc r pc) (budget - left)
     → Reaches (answers g f) (shown g m' (f, bytes_of_pages code)) r0 u (with_pc r' pc')
     (budget - left')
@@ -133,14 +130,10 @@ returns-then-is_stop_at-clause-runs g c = λ f u shows.
     c.fly_between-flown.result.left c.fly_between-flown.ensures.within c.loop-left.invariant.0
     c.fly_between-flown.ensures.reaches c.fly_between-flown.ensures.elsewhere f c.args.regs.now u
     (c.loop-left.invariant.1 f u shows) in
-    subst (λ (x : Registers). Goes (answers g f) (ShowsBy
-    (still m.tid (g.P.Pages.owners m.pages) m.space.now.entries)
-    (g.P.Pages.fixed m.pages) (g.P.Pages.state m.pages) f) c.args.regs.now u x made None)
+    subst (λ (x : Registers). Goes (answers g f) all c.args.regs.now u x made None)
     (sym c.set_pc.ensures)
     (record {
-      reaches = reaches-shown (answers g f) c.args.regs.now u all _
-          (with_pc c.fly_between-flown.new.regs c.fly_between-flown.result.pc) made
-          (λ v s. s.shows) r.0;
+      reaches = r.0;
       stops = tt;
     })
 
@@ -178,13 +171,10 @@ returns-in-None-clause-runs g c = λ f u shows.
     c.fly_between-flown.result.left c.fly_between-flown.ensures.within c.loop-left.invariant.0
     c.fly_between-flown.ensures.reaches c.fly_between-flown.ensures.elsewhere f c.args.regs.now u
     (c.loop-left.invariant.1 f u shows) in
-    subst (λ (x : Registers). Goes (answers g f) (ShowsBy
-    (still n.tid (g.P.Pages.owners n.pages) n.space.now.entries)
-    (g.P.Pages.fixed n.pages) (g.P.Pages.state n.pages) f) r0 u x made (Some c.slowly.new.why))
+    subst (λ (x : Registers). Goes (answers g f) new r0 u x made (Some c.slowly.new.why))
     (sym c.set_pc-in-None.ensures)
-    (goes-shown (answers g f) r0 u new _ after made (Some c.slowly.new.why) (λ v s. s.shows)
     (goes-stopped (answers g f) r0 u old new before after made c.slowly.new.why
-    (λ v s. c.in-None.ensures f v s) r.0))
+    (λ v s. c.in-None.ensures f v s) r.0)
 
 pub returns-in-None-clause-stop : goal.returns-in-None-clause-stop
 returns-in-None-clause-stop g c = not-none c.fly_between-flown.result.left c.if-left-eq0.false
@@ -238,16 +228,12 @@ returns-clause-runs g c = λ f u shows.
                 (sym b.left-is) r.1,
           )
     ] in
-    subst (λ (x : Registers). Goes (answers g f) (ShowsBy
-    (still last.memory.tid (g.P.Pages.owners last.memory.pages) last.memory.space.now.entries)
-    (g.P.Pages.fixed last.memory.pages) (g.P.Pages.state last.memory.pages) f) r0 u x (budget - 0)
-    None) (sym c.set_pc-2.ensures)
+    subst (λ (x : Registers). Goes (answers g f)
+    (shown g last.memory (f, bytes_of_pages code)) r0 u x (budget - 0) None)
+    (sym c.set_pc-2.ensures)
     (record {
-      reaches = reaches-shown (answers g f) r0 u
-          (shown g last.memory (f, bytes_of_pages code)) _ (with_pc last.regs last.pc) (budget - 0)
-          (λ v s. s.shows)
-          (subst (λ k. Reaches (answers g f) (shown g last.memory (f, bytes_of_pages code)) r0 u
-          (with_pc last.regs last.pc) (budget - k)) reached.0 reached.1);
+      reaches = subst (λ k. Reaches (answers g f) (shown g last.memory (f, bytes_of_pages code)) r0
+          u (with_pc last.regs last.pc) (budget - k)) reached.0 reached.1;
       stops = tt;
     })
 

@@ -1,6 +1,9 @@
-use Rattle.std.proofs.Common.{[], rules}
+use Rattle.std.proofs.Common.{[], ap, rules}
 use Rattle.page_store.specs.Store.{joined}
+use Rattle.code_pages.specs.Lines.{bytes_of_pages}
 use Rattle.page_store.proofs.Counts.{owned-within}
+use Rattle.quantum_run.specs.declared.pages.InPlace.{InPlace}
+use Rattle.quantum_run.proofs.Comparing.{keeps-same, right-same}
 use Rattle.quantum_run.proofs.FlatRuns.{run-elsewhere, run-ends, same-elsewhere}
 use Rattle.quantum_run.proofs.Places.{found-within, home-here, home-kept}
 use Rattle.quantum_run.proofs.Whole.{out-or, stops-flat}
@@ -37,6 +40,28 @@ new-memory-requires-2-clause-own c = λ access address frame writes h.
 pub new-memory-requires-2-clause-within : goal.new-memory-requires-2-clause-within
 new-memory-requires-2-clause-within c =
     λ page e is. owned-within c.args.frames.now.owners e.frame (c.requires.mapped page e is).1
+
+pub run-stop-requires-clause-right : goal.run-stop-requires-clause-right
+run-stop-requires-clause-right c =
+    keeps-same (λ (p : InPlace). p.frames.now.pages) _ _ _ _ c.new-memory.ensures.compared
+    c.new-memory.ensures.pages (bytes_of_pages c.args.code.now) c.requires.right
+
+pub run_up_to-stop-requires : goal.run_up_to-stop-requires
+run_up_to-stop-requires c = record {
+  right = keeps-same (λ (p : InPlace). p.frames.now.pages) _ _ _ _
+      c.new-memory-2.ensures.compared c.new-memory-2.ensures.pages
+      (bytes_of_pages c.args.code.now) c.requires.right;
+}
+
+pub returns-then-is_empty-clause-right : goal.returns-then-is_empty-clause-right
+returns-then-is_empty-clause-right c =
+    right-same _ _ _ _ _ _ _ _ (search rules) (search rules) (search rules)
+    (ap bytes_of_pages c.keep_hints.ensures) c.run-stop.ensures.right
+
+pub returns-clause-right : goal.returns-clause-right
+returns-clause-right c =
+    right-same _ _ _ _ _ _ _ _ (search rules) (search rules) (search rules)
+    (ap bytes_of_pages c.keep_hints-2.ensures) c.run_up_to-stop.ensures.right
 
 pub returns-clause-home : goal.returns-clause-home
 returns-clause-home c = home-kept c.args.frames.now.pages _ (search rules) c.requires.home

@@ -13,6 +13,9 @@ all-written c =
     length-kept c.own.inside.pages.items c.run_written.new.own.items c.own.inside.count
     c.own.invariant.0 (c.run_written.ensures.here ∙ ap (map is_some) c.write_out.ensures.items)
 
+pub run_written-requires-clause-right : goal.run_written-requires-clause-right
+run_written-requires-clause-right c = c.nothing-compared.ensures.right
+
 pub returns-clause-runs : goal.returns-clause-runs
 returns-clause-runs c = λ w is.
     let pages = c.args.frames.now.pages in

@@ -1,4 +1,6 @@
 use Rattle.std.proofs.Common.{◌≡◌, ◌∙◌, ◌⊎◌, ap, refl, Some, sym, true}
+use Rattle.code_pages.specs.Lines.{bytes_of_pages}
+use Rattle.quantum_run.specs.Showing.{ShowsKnown}
 use Rattle.quantum_run.specs.Answering.{Still, run_answers, still}
 use Rattle.quantum_run.specs.ThreadRuns.{is_stop_at}
 use Rattle.quantum_run.proofs.Whole.{stops-by}
@@ -13,17 +15,25 @@ returns g c =
     let fixed = g.P.Pages.fixed m.pages in
     let left = c.go_up_to-stop.new.budget in
     let regs = c.go_up_to-stop.new.regs in
-    let gone = e.runs (old, fixed) (g.P.Pages.state m.pages)
-    (record { still = refl; fixed_is = refl; state_is = refl }) in
-    let shown = gone.reaches.shown in
+    let begun : ShowsKnown old (fixed, m.compared.ghost_name) (g.P.Pages.state m.pages)
+    (g.P.Pages.pages m.pages) m.compared.now.slots m.compared.now.blocks
+    ((old, (fixed, m.compared.ghost_name)), bytes_of_pages c.args.code.now)
+    (g.P.Pages.state m.pages) =
+    record {
+      shows = record { still = refl; fixed_is = refl; state_is = refl };
+      right = c.requires.right;
+    } in
+    let gone = e.runs (old, (fixed, m.compared.ghost_name)) (g.P.Pages.state m.pages) begun in
+    let shown = gone.reaches.shown.shows in
     record {
       runs = gone.reaches.ran ∙ ap (λ u. Some (regs, u)) (sym shown.state_is);
       stop = stops-by (run_answers old (g.P.Pages.places fixed))
           ((left ≡ 0) ⊎ (is_stop_at c.args.stops.now regs.pc ≡ true)) c.go_up_to-stop.result left
           regs gone.reaches.now (g.P.Pages.state n.pages) shown.state_is e.stop gone.stops;
-      elsewhere = e.elsewhere (old, fixed) (g.P.Pages.state m.pages)
-          (record { still = refl; fixed_is = refl; state_is = refl });
+      elsewhere = e.elsewhere (old, (fixed, m.compared.ghost_name)) (g.P.Pages.state m.pages) begun;
       within = e.within;
+      right = gone.reaches.shown.right;
+      name = ap (λ x. x.1) shown.fixed_is;
       owners = ap (λ (x : Still). x.owners) shown.still;
-      fixed = shown.fixed_is;
+      fixed = ap (λ x. x.0) shown.fixed_is;
     }

@@ -9,8 +9,8 @@ pub line_in-requires : goal.line_in-requires
 line_in-requires g c =
     let m = c.args.memory.now in
     let known = c.args.code.now in
-    let here = placed m.shown m.compared known known.lines (page_start c.args.pc) c.args.pc
-    c.args.at (not-none c.args.at c.if-at-eq0.false)
+    let here = placed m.shown m.compared.now.blocks known known.lines (page_start c.args.pc)
+    c.args.pc c.args.at (not-none c.args.at c.if-at-eq0.false)
     (not-left c.args.at c.requires c.if-at-eq0.false) in
     subst (λ (xs : List Line). c.args.at < length xs) (sym c.lines.ensures.lines)
     (got-within known.lines c.args.at here.0 here.1)

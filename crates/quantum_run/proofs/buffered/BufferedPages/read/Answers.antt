@@ -1,18 +1,8 @@
 use Rattle.std.proofs.Common.{◌+◌, ◌*◌, ◌∙◌, refl, sym, Some}
 use Rattle.dos_world.specs.Reach.{width}
-use Rattle.page_store.specs.Store.{joined}
-use Rattle.page_store.proofs.Joined.{home-at, joined-number}
+use Rattle.page_store.proofs.Joined.{joined-number}
 use Rattle.quantum_run.specs.Buffering.{pages_read}
-use Rattle.quantum_run.proofs.Packing.{here-is}
-use Rattle.quantum_run.proofs.Paged.{read-window, read-within}
 use Rattle.quantum_run.proofs.buffered.BufferedPages.read.Goals as goal
-
-pub window-old-requires-clause-here : goal.window-old-requires-clause-here
-window-old-requires-clause-here c =
-    let b = c.args.self.now in
-    let home = home-at b.frames.now.pages c.args.frame b.home
-    (read-within b.frames.now.pages b.words c.args.frame c.requires.home) in
-    here-is b.frames.now.pages c.args.frame home.0 home.1
 
 pub returns-in-Some-clause-value : goal.returns-in-Some-clause-value
 returns-in-Some-clause-value c =
@@ -21,11 +11,3 @@ returns-in-Some-clause-value c =
     ∙ sym (joined-number (pages_read b.frames.now.pages b.words) c.args.frame c.args.offset
     (width c.args.size) (4096 * c.args.frame + c.args.offset) (Some c.in-Some.page.now)
     c.in-Some.ensures c.requires.within refl)
-
-pub returns-in-None-clause-value : goal.returns-in-None-clause-value
-returns-in-None-clause-value c =
-    let b = c.args.self.now in
-    c.number_in.ensures.value
-    ∙ read-window b.frames.now.pages b.words c.over-word.result c.args.frame c.args.offset
-    c.args.size c.requires.aligned
-    (c.over-word.ensures (joined b.frames.now.pages) c.window-old.ensures)

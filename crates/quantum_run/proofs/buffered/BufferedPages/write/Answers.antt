@@ -15,7 +15,7 @@ returns-clause-pages c = λ is.
     let home = here-page pages c.args.frame c.requires.own in
     let fits : c.args.offset + length (bytes_of (width c.args.size) c.args.value) ≤ 4096 =
     omega (arith, c.requires.within, length-bytes (width c.args.size) c.args.value) in
-    writes-with pages (words_put (joined pages) old) (words_put (joined pages) c.store.new.self)
+    writes-with pages (words_put (joined pages) old) (words_put (joined pages) c.store.new.words)
     c.args.frame c.args.offset (bytes_of (width c.args.size) c.args.value) home.0 home.1 fits
     (here-within pages c.args.frame c.requires.own) (count-read pages old)
     (c.store.ensures.put is (joined pages))

@@ -1,11 +1,32 @@
 use Rattle.std.proofs.Common.{◌+◌, ◌*◌, ◌/◌, ◌%◌, ◌<◌, ◌≡◌, ◌∙◌, ap, arith, length, refl, rules}
-use Rattle.std.proofs.Common.{sym}
-use Rattle.std.proofs.Common.{slice_get}
+use Rattle.std.proofs.Common.{Bool, List, slice_get, subst, sym}
 use Rattle.code_pages.specs.Lines.{bytes_of_pages}
 use Rattle.page_store.specs.declared.compared.Slot.{Slot}
-use Rattle.quantum_run.specs.Knowing.{block_place}
+use Rattle.quantum_run.specs.Knowing.{AreRight, block_place}
 use Rattle.quantum_run.proofs.Comparing.{right-compared, slot-here}
+use Rattle.quantum_run.proofs.FoundAgain.{shown-kept}
 use Rattle.quantum_run.proofs.thread_memory.Running.compare.Goals as goal
+
+pub returns-then-is_compared-clause-compared : goal.returns-then-is_compared-clause-compared
+returns-then-is_compared-clause-compared g c = λ _.
+    let blocks = c.args.self.now.compared.now.blocks in
+    let at = 16 * c.slot_place-slot.result + c.args.address % 4096 / 256 in
+    let is = c.slot_place-slot.ensures.place in
+    let place : at ≡ block_place c.args.address = omega (arith, is) in
+    record {
+      found = c.requires.found;
+      is = ap (λ k. slice_get blocks k) (sym place) ∙ c.is_compared.ensures c.if-is_compared.true;
+    }
+
+pub returns-clause-compared : goal.returns-clause-compared
+returns-clause-compared g c = λ _.
+    let at = 16 * c.slot_place-slot.result + c.args.address % 4096 / 256 in
+    let is = c.slot_place-slot.ensures.place in
+    let place : at ≡ block_place c.args.address = omega (arith, is) in
+    record {
+      found = c.requires.found;
+      is = ap (λ k. slice_get c.mark.new.self.blocks k) (sym place) ∙ c.mark.ensures.is;
+    }
 
 pub returns-clause-right : goal.returns-clause-right
 returns-clause-right g c = λ are.
@@ -17,11 +38,20 @@ returns-clause-right g c = λ are.
     let small : slot < length m.shown = search rules in
     let none : Slot = record { start = 0; frame = 0 } in
     let place : 16 * slot + address % 4096 / 256 ≡ block_place address = omega (arith, is) in
-    right-compared m.shown m.compared pages (bytes_of_pages c.check.new.self) c.args.code.now
+    let same = shown-kept m.compared.now.slots m.shown address m.kept c.ranges.address.fits
+    c.requires.found in
+    let new = bytes_of_pages c.check.new.self in
+    subst (λ (s : List Slot). AreRight s c.mark.new.self.blocks pages new)
+    (sym c.mark.ensures.slots)
+    (subst (λ (b : List Bool). AreRight m.compared.now.slots b pages new)
+    (sym c.mark.ensures.blocks)
+    (right-compared m.compared.now.slots m.compared.now.blocks pages new c.args.code.now
     address (address % 4096 / 256) c.code_place.result (16 * slot + address % 4096 / 256)
     c.in-Some.page.now c.bytes.result.now c.check.result c.if-not-check.false
-    c.ranges.address.fits c.requires.found
-    (ap (λ (s : Slot). slice_get pages s.frame) (sym (slot-here m.shown address slot none is small))
+    c.ranges.address.fits (ap (λ (s : Slot). s.start) (sym same) ∙ c.requires.found)
+    (ap (λ (s : Slot). slice_get pages s.frame) (sym same)
+    ∙ ap (λ (s : Slot). slice_get pages s.frame)
+    (sym (slot-here m.shown address slot none is small))
     ∙ c.in-Some.ensures)
     refl c.code_place.ensures.place place c.bytes.ensures.value c.check.ensures.there
-    c.check.ensures.known c.check.ensures.pages are
+    c.check.ensures.known c.check.ensures.pages are))

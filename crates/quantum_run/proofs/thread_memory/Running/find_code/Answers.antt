@@ -6,6 +6,6 @@ returns-in-Some-clause-right g c = λ known are.
     let m = c.args.self.now in
     let n = c.find.new.self in
     c.show.ensures.right known
-    (keeps-same g.P.Pages.pages m.shown n.shown m.compared n.compared m.pages n.pages
-    c.find.ensures.same.0 c.find.ensures.same.1 c.find.ensures.pages
+    (keeps-same g.P.Pages.pages m.pages n.pages m.compared n.compared
+    c.find.ensures.same.1 c.find.ensures.pages
     known are)

@@ -5,8 +5,8 @@ pub returns-in_default-clause-right : goal.returns-in_default-clause-right
 returns-in_default-clause-right g c =
     let m = c.args.self.now in
     let n = c.find.new.self in
-    keeps-same g.P.Pages.pages m.shown n.shown m.compared n.compared m.pages n.pages
-    c.find.ensures.same.0 c.find.ensures.same.1 c.find.ensures.pages
+    keeps-same g.P.Pages.pages m.pages n.pages m.compared n.compared
+    c.find.ensures.same.1 c.find.ensures.pages
 
 pub returns-clause-right : goal.returns-clause-right
 returns-clause-right g c = λ known are.
@@ -14,10 +14,9 @@ returns-clause-right g c = λ known are.
     let n = c.find.new.self in
     let s = c.store_again.new.self in
     let l = c.load_too.new.self in
-    keeps-same g.P.Pages.pages s.shown l.shown s.compared l.compared s.pages l.pages
-    c.load_too.ensures.same.0 c.load_too.ensures.same.1
+    keeps-same g.P.Pages.pages s.pages l.pages s.compared l.compared c.load_too.ensures.same.1
     c.load_too.ensures.pages known
     (c.store_again.ensures.right known
-    (keeps-same g.P.Pages.pages m.shown n.shown m.compared n.compared m.pages n.pages
-    c.find.ensures.same.0 c.find.ensures.same.1 c.find.ensures.pages
+    (keeps-same g.P.Pages.pages m.pages n.pages m.compared n.compared
+    c.find.ensures.same.1 c.find.ensures.pages
     known are))

@@ -25,6 +25,7 @@ returns-then-slot-aligned_start g c =
       free = m.apart c.slot_place.result empty small
           (omega (arith, start, aligned, c.ranges.address.fits));
       right = λ known are. are;
+      name = refl;
       still = refl;
       pages = refl;
     }

@@ -14,6 +14,6 @@ returns-then-not-compare-clause-right g c = λ are.
 pub returns-clause-right : goal.returns-clause-right
 returns-clause-right g c = λ are.
     let n = c.compare.new.self in
-    subst (λ (known : List (Option (List ℕ))). AreRight n.shown n.compared
+    subst (λ (known : List (Option (List ℕ))). AreRight n.compared.now.slots n.compared.now.blocks
     (g.P.Pages.pages n.pages) known) (sym c.line.ensures.pages)
     (c.compare.ensures.right (c.find_code.ensures.right (bytes_of_pages c.args.code.now) are))

@@ -21,6 +21,6 @@ invariant_of-self g c =
           m.loaded_are;
       stored_are = m.stored_are;
       apart = m.apart;
-      shown_marked = m.shown_marked;
+      kept = m.kept;
       stored_marked = m.stored_marked;
     }

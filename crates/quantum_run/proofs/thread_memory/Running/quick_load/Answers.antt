@@ -1,3 +1,4 @@
+use Rattle.quantum_run.specs.Showing.{beside_name}
 use Rattle.std.proofs.Common.{◌<◌, ◌∙◌, ◌≡◌, Ok, length, rules, sym}
 use Rattle.dos_world.specs.declared.Access.TheVariants.{Load}
 use Rattle.flat_machine.specs.Over.{MemoryAnswers}
@@ -34,7 +35,7 @@ returns g c = record {
       let fixed = g.P.Pages.fixed m.pages in
       let state = g.P.Pages.state m.pages in
       let places = g.P.Pages.places fixed in
-      as-shown g.P.Pages.places now fixed state f.0 u
+      as-shown (beside_name g.P.Pages.places) now (fixed, m.compared.ghost_name) state f.0 u
       (λ (answers : MemoryAnswers g.P.Pages.State) (x : g.P.Pages.State).
       answers.load x c.args.address c.args.size ≡ Ok c.read_aligned.result) s.shows
       (sym (read-found now places state c.args.address c.args.size Load

@@ -1,5 +1,6 @@
+use Rattle.quantum_run.specs.Showing.{beside_name}
 use Rattle.std.proofs.Common.{◌<◌, ◌∙◌, ◌≡◌, Bool, Ok, Result, Some, arith, length, refl, rules}
-use Rattle.std.proofs.Common.{true, false}
+use Rattle.std.proofs.Common.{ap, true, false}
 use Rattle.dos_world.specs.declared.Reason.{Reason}
 use Rattle.dos_world.specs.declared.Access.TheVariants.{Store}
 use Rattle.flat_machine.specs.Over.{MemoryAnswers}
@@ -54,12 +55,14 @@ returns g c = record {
       let places = g.P.Pages.places fixed in
       let left = g.P.Pages.state n.pages in
       let new = ShowsKnown (still n.tid (g.P.Pages.owners n.pages) n.space.now.entries)
-      (g.P.Pages.fixed n.pages) left (g.P.Pages.pages n.pages) n.shown n.compared f in
+      (g.P.Pages.fixed n.pages, n.compared.ghost_name) left (g.P.Pages.pages n.pages)
+      n.compared.now.slots n.compared.now.blocks f in
       stores-by g.P.Pages.State c.write.result
-      ((answers_of g.P.Pages.places f).store u c.args.address c.args.size c.args.value) u new
+      ((answers_of (beside_name g.P.Pages.places) f).store u c.args.address c.args.size
+      c.args.value) u new
       (λ did. (
         left,
-        as-shown g.P.Pages.places now fixed state f.0 u
+        as-shown (beside_name g.P.Pages.places) now (fixed, m.compared.ghost_name) state f.0 u
             (λ (answers : MemoryAnswers g.P.Pages.State) (x : g.P.Pages.State).
             answers.store x c.args.address c.args.size c.args.value ≡ Ok left) s.shows
             (stored-found now places state c.args.address c.args.size c.args.value frame (Some left)
@@ -68,7 +71,8 @@ returns g c = record {
         record {
           shows = record {
             still = e.still ∙ s.shows.still;
-            fixed_is = e.fixed ∙ s.shows.fixed_is;
+            fixed_is = ap (λ x. (x, n.compared.ghost_name)) e.fixed ∙ ap (λ x. (fixed, x)) e.name
+                ∙ s.shows.fixed_is;
             state_is = refl;
           };
           right = e.right f.1 s.right;
@@ -77,7 +81,8 @@ returns g c = record {
       (λ didnt. record {
         shows = record {
           still = e.still ∙ s.shows.still;
-          fixed_is = e.fixed ∙ s.shows.fixed_is;
+          fixed_is = ap (λ x. (x, n.compared.ghost_name)) e.fixed ∙ ap (λ x. (fixed, x)) e.name
+              ∙ s.shows.fixed_is;
           state_is = e.state didnt ∙ s.shows.state_is;
         };
         right = e.right f.1 s.right;

@@ -30,9 +30,9 @@ invariant_of-self g c =
           (subst (λ (s : Still). frame_for s.thread s.owners s.entries c.args.access
           c.args.address ≡ Ok c.args.frame) (sym c.hide.ensures.still) c.requires.frame))
           m.stored_are;
-      apart = apart-stored m.shown m.stored new place slot c.keep_frame.ensures m.apart
+      apart = apart-stored m.compared.now.slots m.stored new place slot c.keep_frame.ensures m.apart
           c.hide.ensures.free;
-      shown_marked = m.shown_marked;
+      kept = m.kept;
       stored_marked = subst (λ (slots : List Slot). SlotsAreMarked slots
           (set m.stored_marks c.mark_place.result true)) (sym c.keep_frame.ensures)
           (marked-more m.stored m.stored_marks place c.mark_place.result slot

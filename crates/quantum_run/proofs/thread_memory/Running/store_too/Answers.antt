@@ -29,9 +29,9 @@ invariant_of-self-2 g c =
           (search rules) (ap (is_foreign m.tid Store) (sym c.owner.ensures)
           ∙ sym c.is_foreign.ensures ∙ c.if-is_foreign.false)))
           m.stored_are;
-      apart = apart-stored m.shown m.stored new place slot c.keep_frame.ensures m.apart
-          (c.finds_frame.ensures c.if-finds_frame.false);
-      shown_marked = m.shown_marked;
+      apart = apart-stored m.compared.now.slots m.stored new place slot c.keep_frame.ensures m.apart
+          (c.has.ensures c.if-has.false);
+      kept = m.kept;
       stored_marked = subst (λ (slots : List Slot). SlotsAreMarked slots
           (set m.stored_marks c.mark_place.result true)) (sym c.keep_frame.ensures)
           (marked-more m.stored m.stored_marks place c.mark_place.result slot

@@ -21,11 +21,13 @@ returns-clause-right g c =
     let m = c.args.self.now in
     let pages = g.P.Pages.pages m.pages in
     let new = g.P.Pages.pages c.write.new.self in
-    either-way {A = KeepsRight m.shown m.compared pages m.shown m.compared new} c.write.result
-    (λ did. keeps-written m.shown m.compared pages new c.args.frame (c.args.address % 4096)
+    either-way {A = KeepsRight m.compared.now.slots m.compared.now.blocks pages m.compared.now.slots
+    m.compared.now.blocks new} c.write.result (λ did. keeps-written m.compared.now.slots
+    m.compared.now.blocks pages new c.args.frame (c.args.address % 4096)
     (bytes_of (width c.args.size) c.args.value) (c.write.ensures.pages did) c.requires.free)
-    (λ didnt known are. subst (λ (ps : List (Option (List ℕ))). KeepsRight m.shown m.compared pages
-    m.shown m.compared ps) (sym (c.write.ensures.same didnt).1) (λ known are. are) known are)
+    (λ didnt known are. subst (λ (ps : List (Option (List ℕ))). KeepsRight m.compared.now.slots
+    m.compared.now.blocks pages m.compared.now.slots m.compared.now.blocks ps)
+    (sym (c.write.ensures.same didnt).1) (λ known are. are) known are)
 
 pub invariant_of-self : goal.invariant_of-self
 invariant_of-self g c =
@@ -58,6 +60,6 @@ invariant_of-self g c =
           (os : List Owner). AreFramesOf t os entries Store c.args.self.now.stored)
           (sym e) c.args.self.now.stored_are;
       apart = c.args.self.now.apart;
-      shown_marked = c.args.self.now.shown_marked;
+      kept = c.args.self.now.kept;
       stored_marked = c.args.self.now.stored_marked;
     }

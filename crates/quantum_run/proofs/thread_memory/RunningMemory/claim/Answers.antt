@@ -1,3 +1,4 @@
+use Rattle.quantum_run.specs.Showing.{beside_name}
 use Rattle.std.proofs.Common.{◌≡◌, ◌∙◌, Err, Ok, ap, sym}
 use Rattle.dos_world.specs.declared.Access.TheVariants.{Claim}
 use Rattle.dos_world.specs.declared.Reason.TheVariants.{Page}
@@ -16,9 +17,9 @@ returns-then-claims g c = λ f u s.
     let now = still m.tid (g.P.Pages.owners m.pages) m.space.now.entries in
     let fixed = g.P.Pages.fixed m.pages in
     let state = g.P.Pages.state m.pages in (
-      shows-known g.P.Pages.fixed g.P.Pages.state g.P.Pages.pages m.pages n.pages _ _ _ _ _ _ f u
-          e.still e.pages e.right s,
-      as-shown g.P.Pages.places now fixed state f.0 u
+      shows-known g.P.Pages.fixed g.P.Pages.state g.P.Pages.pages m.pages n.pages _ _ _ _ _ _ _ _ f
+          u e.still e.pages e.name e.right s,
+      as-shown (beside_name g.P.Pages.places) now (fixed, m.compared.ghost_name) state f.0 u
           (λ (answers : MemoryAnswers g.P.Pages.State) (x : g.P.Pages.State).
           Ok c.read_aligned.result ≡ answers.claim x c.args.address) s.shows
           (claim-found now (g.P.Pages.places fixed) state c.args.address
@@ -37,9 +38,9 @@ returns-else-claims g c = λ f u s.
     let now = still m.tid (g.P.Pages.owners m.pages) m.space.now.entries in
     let fixed = g.P.Pages.fixed m.pages in
     let state = g.P.Pages.state m.pages in (
-      shows-known g.P.Pages.fixed g.P.Pages.state g.P.Pages.pages m.pages n.pages _ _ _ _ _ _ f u
-          e.still e.pages e.right s,
-      as-shown g.P.Pages.places now fixed state f.0 u
+      shows-known g.P.Pages.fixed g.P.Pages.state g.P.Pages.pages m.pages n.pages _ _ _ _ _ _ _ _ f
+          u e.still e.pages e.name e.right s,
+      as-shown (beside_name g.P.Pages.places) now (fixed, m.compared.ghost_name) state f.0 u
           (λ (answers : MemoryAnswers g.P.Pages.State) (x : g.P.Pages.State).
           Err (Page c.args.address Claim) ≡ answers.claim x c.args.address) s.shows
           (claim-stopped now (g.P.Pages.places fixed) state c.args.address c.in-Some.frame e.value
@@ -55,9 +56,9 @@ returns-in-None g c = λ f u s.
     let now = still m.tid (g.P.Pages.owners m.pages) m.space.now.entries in
     let fixed = g.P.Pages.fixed m.pages in
     let state = g.P.Pages.state m.pages in (
-      shows-known g.P.Pages.fixed g.P.Pages.state g.P.Pages.pages m.pages n.pages _ _ _ _ _ _ f u
-          e.still e.pages e.right s,
-      as-shown g.P.Pages.places now fixed state f.0 u
+      shows-known g.P.Pages.fixed g.P.Pages.state g.P.Pages.pages m.pages n.pages _ _ _ _ _ _ _ _ f
+          u e.still e.pages e.name e.right s,
+      as-shown (beside_name g.P.Pages.places) now (fixed, m.compared.ghost_name) state f.0 u
           (λ (answers : MemoryAnswers g.P.Pages.State) (x : g.P.Pages.State).
           Err n.refused ≡ answers.claim x c.args.address) s.shows
           (claim-refused now (g.P.Pages.places fixed) state c.args.address n.refused e.value),

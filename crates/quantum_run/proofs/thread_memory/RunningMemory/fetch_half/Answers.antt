@@ -1,3 +1,4 @@
+use Rattle.quantum_run.specs.Showing.{beside_name}
 use Rattle.std.proofs.Common.{◌%◌, ◌≡◌, ◌∙◌, Err, Ok, ap, rules, sym}
 use Rattle.dos_world.specs.declared.Access.TheVariants.{Fetch}
 use Rattle.dos_world.specs.declared.Size.TheVariants.{Half}
@@ -20,11 +21,10 @@ returns-in-Some g c = λ f u s.
     let fixed = g.P.Pages.fixed m.pages in
     let state = g.P.Pages.state m.pages in
     let even : c.args.address % 2 ≡ 0 = search rules in (
-      shows-known g.P.Pages.fixed g.P.Pages.state g.P.Pages.pages m.pages n.pages _ _ _ _ _ _ f u
-          e.still e.pages
-          (keeps-same g.P.Pages.pages m.shown n.shown m.compared n.compared m.pages n.pages e.same.0
-          e.same.1 e.pages) s,
-      as-shown g.P.Pages.places now fixed state f.0 u
+      shows-known g.P.Pages.fixed g.P.Pages.state g.P.Pages.pages m.pages n.pages _ _ _ _ _ _ _ _ f
+          u e.still e.pages (ap (λ x. x.ghost_name) e.same.1)
+          (keeps-same g.P.Pages.pages m.pages n.pages m.compared n.compared e.same.1 e.pages) s,
+      as-shown (beside_name g.P.Pages.places) now (fixed, m.compared.ghost_name) state f.0 u
           (λ (answers : MemoryAnswers g.P.Pages.State) (x : g.P.Pages.State).
           Ok c.read.result ≡ answers.fetch x c.args.address) s.shows
           (read-found now (g.P.Pages.places fixed) state c.args.address Half Fetch
@@ -45,11 +45,10 @@ returns-in-None g c = λ f u s.
     let fixed = g.P.Pages.fixed m.pages in
     let state = g.P.Pages.state m.pages in
     let even : c.args.address % 2 ≡ 0 = search rules in (
-      shows-known g.P.Pages.fixed g.P.Pages.state g.P.Pages.pages m.pages n.pages _ _ _ _ _ _ f u
-          e.still e.pages
-          (keeps-same g.P.Pages.pages m.shown n.shown m.compared n.compared m.pages n.pages e.same.0
-          e.same.1 e.pages) s,
-      as-shown g.P.Pages.places now fixed state f.0 u
+      shows-known g.P.Pages.fixed g.P.Pages.state g.P.Pages.pages m.pages n.pages _ _ _ _ _ _ _ _ f
+          u e.still e.pages (ap (λ x. x.ghost_name) e.same.1)
+          (keeps-same g.P.Pages.pages m.pages n.pages m.compared n.compared e.same.1 e.pages) s,
+      as-shown (beside_name g.P.Pages.places) now (fixed, m.compared.ghost_name) state f.0 u
           (λ (answers : MemoryAnswers g.P.Pages.State) (x : g.P.Pages.State).
           Err n.refused ≡ answers.fetch x c.args.address) s.shows
           (read-refused now (g.P.Pages.places fixed) state c.args.address Half Fetch n.refused

@@ -1,3 +1,4 @@
+use Rattle.quantum_run.specs.Showing.{beside_name}
 use Rattle.std.proofs.Common.{◌≡◌, ◌∙◌, Err, Ok, ap, sym}
 use Rattle.dos_world.specs.declared.Access.TheVariants.{Load}
 use Rattle.flat_machine.specs.Over.{MemoryAnswers}
@@ -15,11 +16,10 @@ returns-in-Some g c = λ f u s.
     let now = still m.tid (g.P.Pages.owners m.pages) m.space.now.entries in
     let fixed = g.P.Pages.fixed m.pages in
     let state = g.P.Pages.state m.pages in (
-      shows-known g.P.Pages.fixed g.P.Pages.state g.P.Pages.pages m.pages n.pages _ _ _ _ _ _ f u
-          e.still e.pages
-          (keeps-same g.P.Pages.pages m.shown n.shown m.compared n.compared m.pages n.pages e.same.0
-          e.same.1 e.pages) s,
-      as-shown g.P.Pages.places now fixed state f.0 u
+      shows-known g.P.Pages.fixed g.P.Pages.state g.P.Pages.pages m.pages n.pages _ _ _ _ _ _ _ _ f
+          u e.still e.pages (ap (λ x. x.ghost_name) e.same.1)
+          (keeps-same g.P.Pages.pages m.pages n.pages m.compared n.compared e.same.1 e.pages) s,
+      as-shown (beside_name g.P.Pages.places) now (fixed, m.compared.ghost_name) state f.0 u
           (λ (answers : MemoryAnswers g.P.Pages.State) (x : g.P.Pages.State).
           Ok c.read_aligned.result ≡ answers.load x c.args.address c.args.size) s.shows
           (read-found now (g.P.Pages.places fixed) state c.args.address c.args.size Load
@@ -36,11 +36,10 @@ returns-in-None g c = λ f u s.
     let now = still m.tid (g.P.Pages.owners m.pages) m.space.now.entries in
     let fixed = g.P.Pages.fixed m.pages in
     let state = g.P.Pages.state m.pages in (
-      shows-known g.P.Pages.fixed g.P.Pages.state g.P.Pages.pages m.pages n.pages _ _ _ _ _ _ f u
-          e.still e.pages
-          (keeps-same g.P.Pages.pages m.shown n.shown m.compared n.compared m.pages n.pages e.same.0
-          e.same.1 e.pages) s,
-      as-shown g.P.Pages.places now fixed state f.0 u
+      shows-known g.P.Pages.fixed g.P.Pages.state g.P.Pages.pages m.pages n.pages _ _ _ _ _ _ _ _ f
+          u e.still e.pages (ap (λ x. x.ghost_name) e.same.1)
+          (keeps-same g.P.Pages.pages m.pages n.pages m.compared n.compared e.same.1 e.pages) s,
+      as-shown (beside_name g.P.Pages.places) now (fixed, m.compared.ghost_name) state f.0 u
           (λ (answers : MemoryAnswers g.P.Pages.State) (x : g.P.Pages.State).
           Err n.refused ≡ answers.load x c.args.address c.args.size) s.shows
           (read-refused now (g.P.Pages.places fixed) state c.args.address c.args.size Load n.refused
