@@ -2,7 +2,7 @@
 //! that moment, with no fence between, whoever stored them: the thread itself, another thread,
 //! another process, a read or a fork, or a page that was mapped anew. The interpreter remembers
 //! what words of code stand for and where pages lie; here stands what it may never remember too
-//! long.
+//! long. One guest changes no code: it writes x0, which the interpreter knows by the code.
 //!
 //! Each guest is run by the whole program at quanta from 16 to 65536, with one worker and with 32,
 //! and replayed, those of one thread by both schemes, and comes to an output and a status that tell
@@ -28,3 +28,5 @@ mod pages;
 mod processes;
 #[cfg(test)]
 mod threads;
+#[cfg(test)]
+mod zero;
