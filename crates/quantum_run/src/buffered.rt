@@ -79,7 +79,7 @@ fn store_new_word(words: &mut WrittenWords, frame: u32, number: u32, value: u32)
     words.store(frame, 4 * number, Size::Word, value)
 }
 
-// the same, at first sight where it is found so
+// the same, without a search where it takes none
 #[inline(never)]
 fn store_word(words: &mut WrittenWords, frame: u32, number: u32, value: u32) -> bool
     requires { number < 1024 }
@@ -89,7 +89,7 @@ fn store_word(words: &mut WrittenWords, frame: u32, number: u32, value: u32) -> 
         ≡ written (words_put bytes words.old) (4096 * frame + 4 * number) (bytes_of 4 value) }
     ensures same { result ≡ false → words.new ≡ words.old }
 {
-    if words.store_again(frame, 4 * number, Size::Word, value) {
+    if words.store_quickly(frame, 4 * number, Size::Word, value) {
         return true;
     }
     store_new_word(words, frame, number, value)

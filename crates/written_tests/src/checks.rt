@@ -55,19 +55,19 @@ pub(crate) fn check_store(rt: &impl Abort, words: &mut WrittenWords, store: Stor
     same_at(rt, stored(words, store), Some(taken), place);
 }
 
-/// Whether a store was done at first sight. None where no access is at such an offset.
-fn stored_again(words: &mut WrittenWords, store: Store) -> Option<bool> {
+/// Whether a store was done without a search. None where no access is at such an offset.
+fn stored_quickly(words: &mut WrittenWords, store: Store) -> Option<bool> {
     let (frame, offset, size, value) = store;
     if offset >= 4096 || !size.is_aligned(offset) {
         return None;
     }
-    Some(words.store_again(frame, offset, size, value))
+    Some(words.store_quickly(frame, offset, size, value))
 }
 
-/// Does a store if its word is found at first sight, and compares whether it was.
-pub(crate) fn check_again(rt: &impl Abort, words: &mut WrittenWords, store: Store, done: bool) {
+/// Does a store if it takes no search, and compares whether it was done.
+pub(crate) fn check_quickly(rt: &impl Abort, words: &mut WrittenWords, store: Store, done: bool) {
     let place = (store.0, store.1);
-    same_at(rt, stored_again(words, store), Some(done), place);
+    same_at(rt, stored_quickly(words, store), Some(done), place);
 }
 
 /// Does the stores, each of which is taken.

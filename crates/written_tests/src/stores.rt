@@ -1,6 +1,7 @@
 //! Bytes, halves and words that meet in a word, or lie in two.
 use crate::checks::{
-    Store, check_again, check_read, check_whole, check_words, no_words, store_all,
+    Store, check_quickly, check_read, check_store, check_whole, check_words, no_words, same_at,
+    store_all,
 };
 use dos_world::Size;
 use std::process::Abort;
@@ -195,23 +196,46 @@ fn a_word_is_whole_once_its_bytes_are_written(rt: HostRuntime) {
 }
 
 #[test]
-fn a_word_is_stored_again_where_it_is_found_at_first_sight(rt: HostRuntime) {
+fn a_word_is_stored_without_a_search_where_its_chain_has_none_or_ends_with_it(rt: HostRuntime) {
     let mut words = no_words(rt.alloc()).expect(&rt, "memory");
-    check_again(&rt, &mut words, (7, 4, Size::Word, 1), false);
-    check_words(&rt, &words, &[]);
-    store_all(&rt, &mut words, &[(7, 4, Size::Byte, 0xaa)]);
-    check_again(&rt, &mut words, (7, 6, Size::Half, 0xbbcc), true);
+    // the first of its chain
+    check_quickly(&rt, &mut words, (7, 4, Size::Byte, 0x11aa), true);
+    check_words(&rt, &words, &[word(7, 4, 0b0001, 0xaa)]);
+    // the last of its chain
+    check_quickly(&rt, &mut words, (7, 6, Size::Half, 0xbbcc), true);
     check_words(&rt, &words, &[word(7, 4, 0b1101, 0xbbcc_00aa)]);
-    check_again(&rt, &mut words, (7, 4, Size::Word, 0x89ab_cdef), true);
-    // elsewhere
-    check_again(&rt, &mut words, (7, 8, Size::Word, 1), false);
-    check_again(&rt, &mut words, (8, 4, Size::Word, 1), false);
+    check_quickly(&rt, &mut words, (7, 4, Size::Word, 0x89ab_cdef), true);
     check_words(&rt, &words, &[word(7, 4, 0b1111, 0x89ab_cdef)]);
-    // behind the later word of its chain
-    store_all(&rt, &mut words, &[(1031, 4, Size::Word, 2)]);
-    check_again(&rt, &mut words, (7, 4, Size::Word, 3), false);
-    check_again(&rt, &mut words, (1031, 4, Size::Word, 4), true);
-    let wanted = [word(7, 4, 0b1111, 0x89ab_cdef), word(1031, 4, 0b1111, 4)];
+    // of another chain, and as the second of the first one's, which frames have that differ by 1024
+    check_quickly(&rt, &mut words, (7, 8, Size::Word, 1), true);
+    check_quickly(&rt, &mut words, (1031, 4, Size::Word, 2), false);
+    let mut wanted = vec![in rt.alloc();
+        word(7, 4, 0b1111, 0x89ab_cdef),
+        word(7, 8, 0b1111, 1),
+    ].expect(&rt, "memory");
     check_words(&rt, &words, &wanted);
+    store_all(&rt, &mut words, &[(1031, 4, Size::Word, 2)]);
+    // the earlier word of its chain, and the later one
+    check_quickly(&rt, &mut words, (7, 4, Size::Word, 3), false);
+    check_quickly(&rt, &mut words, (1031, 4, Size::Word, 4), true);
+    wanted.push(word(1031, 4, 0b1111, 4)).expect(&rt, "memory");
+    check_words(&rt, &words, &wanted);
+    words.clear();
+    check_quickly(&rt, &mut words, (1031, 4, Size::Word, 5), true);
+    check_words(&rt, &words, &[word(1031, 4, 0b1111, 5)]);
+    drop(words);
+}
+
+#[test]
+fn a_list_that_is_full_takes_no_word_without_a_search(rt: HostRuntime) {
+    let mut words = no_words(rt.alloc()).expect(&rt, "memory");
+    for number in 0..1023 {
+        check_quickly(&rt, &mut words, (3, 4 * number, Size::Word, number), true);
+    }
+    check_store(&rt, &mut words, (2, 0, Size::Word, 7), true);
+    // that of the last chain of frame 3, which has no word
+    check_quickly(&rt, &mut words, (3, 4092, Size::Word, 8), false);
+    check_quickly(&rt, &mut words, (3, 4088, Size::Byte, 9), true);
+    same_at(&rt, words.as_slice().len(), 1024, "words");
     drop(words);
 }

@@ -1,6 +1,6 @@
 // The words that a thread has written.
-ghost use Rattle.std.specs.Prelude.{◌≡◌, ◌+◌, ◌*◌, ◌≤◌, ◌<◌, ◌%◌, ◌++◌, ◌∷◌, ℕ, List, [], true};
-ghost use Rattle.std.specs.Prelude.{false, Some, None, IfOk, IfSome, MatchOption, length};
+ghost use Rattle.std.specs.Prelude.{◌≡◌, ◌+◌, ◌*◌, ◌/◌, ◌≤◌, ◌<◌, ◌%◌, ◌++◌, ◌∷◌, ℕ, List, []};
+ghost use Rattle.std.specs.Prelude.{true, false, Some, None, IfOk, IfSome, MatchOption, length};
 ghost use Rattle.std.specs.Prelude.{if◌then◌else◌};
 ghost use Rattle.std.specs.Prelude.{take, drop, replicate, slice_get, slice_set};
 ghost use Rattle.std.specs.List.{list_any};
@@ -152,6 +152,16 @@ impl WrittenWords {
         None
     }
 
+    // whether no word of the chain of this frame and offset has been written
+    #[inline(always)]
+    fn has_none_in_chain(&self, frame: u32, offset: u32) -> bool
+        ensures { result ≡ true → list_any (is_at frame offset) self.now ≡ false }
+    {
+        // that the words are indexed is known of what is kept of them
+        let _count = self.words.len();
+        self.last[chain(frame, offset)] == 0
+    }
+
     // one word more
     fn add(&mut self, word: Written)
         requires few { length self.old < 1024 }
@@ -177,6 +187,32 @@ impl WrittenWords {
         self.words[place] = with_value(self.words[place], first, size, value);
     }
 
+    // the same as `store` where the word hasn't been written
+    #[inline]
+    fn store_new(&mut self, frame: u32, offset: u32, size: Size, value: u32) -> bool
+        requires within { offset < 4096 }
+        requires aligned { offset % width size ≡ 0 }
+        requires other { list_any (is_at frame (offset / 4 * 4)) self.old ≡ false }
+        ensures words { with_stored self.old frame offset (bytes_of (width size) value)
+            ≡ (if result then Some self.new else None) }
+        ensures put { result ≡ true → (bytes : List ℕ) → words_put bytes self.new
+            ≡ written (words_put bytes self.old) (4096 * frame + offset)
+            (bytes_of (width size) value) }
+        ensures same { result ≡ false → self.new ≡ self.old }
+    {
+        if self.words.len() == MOST {
+            return false;
+        }
+        let word = Written {
+            frame,
+            offset: offset / 4 * 4,
+            mask: 0,
+            value: 0,
+        };
+        self.add(with_value(word, offset % 4, size, value));
+        true
+    }
+
     /// Stores the low bytes of a value at an offset in a frame: into the word that has been written
     /// there, or into a new one. False exactly where that would be the 1,025th, and nothing is
     /// changed then. What the words make of memory afterwards is what they made of it before, with
@@ -192,32 +228,23 @@ impl WrittenWords {
             (bytes_of (width size) value) }
         ensures same { result ≡ false → self.new ≡ self.old }
     {
+        // that the words are indexed is known of what is kept of them
+        let _count = self.words.len();
         let aligned = offset / 4 * 4;
         match self.find(frame, aligned) {
             Some(place) => {
                 self.change(place, offset % 4, size, value);
                 true
             }
-            None => {
-                if self.words.len() == MOST {
-                    return false;
-                }
-                let word = Written {
-                    frame,
-                    offset: aligned,
-                    mask: 0,
-                    value: 0,
-                };
-                self.add(with_value(word, offset % 4, size, value));
-                true
-            }
+            None => self.store_new(frame, offset, size, value),
         }
     }
 
-    /// Stores as `store` does where the word has been written and is found at first sight, without
-    /// a loop. False, and nothing is changed, where it isn't.
+    /// Stores as `store` does where it takes no search: the word is the last of its chain, or no
+    /// word of its chain has been written and there is room. False, and nothing is changed, where
+    /// it takes one.
     #[inline(always)]
-    pub fn store_again(&mut self, frame: u32, offset: u32, size: Size, value: u32) -> bool
+    pub fn store_quickly(&mut self, frame: u32, offset: u32, size: Size, value: u32) -> bool
         requires within { offset < 4096 }
         requires aligned { offset % width size ≡ 0 }
         ensures words { result ≡ true
@@ -229,7 +256,11 @@ impl WrittenWords {
     {
         // that the words are indexed is known of what is kept of them
         let _count = self.words.len();
-        match self.find_last(frame, offset / 4 * 4) {
+        let aligned = offset / 4 * 4;
+        if self.has_none_in_chain(frame, aligned) {
+            return self.store_new(frame, offset, size, value);
+        }
+        match self.find_last(frame, aligned) {
             Some(place) => {
                 self.change(place, offset % 4, size, value);
                 true

@@ -1,6 +1,6 @@
 use Rattle.std.proofs.Common.{◌*◌, ◌/◌, ◌%◌, ◌∙◌, ◌++◌, ◌∷◌, [], ap, sym, cond, Some}
 use Rattle.std.proofs.Common.{None}
-use Rattle.std.proofs.Common.{Bool, List, length, eqb, rules, subst}
+use Rattle.std.proofs.Common.{Bool, List, length, eqb, subst}
 use Rattle.dos_world.specs.Reach.{bytes_of, width}
 use Rattle.written_words.specs.declared.Written.{Written}
 use Rattle.written_words.specs.Words.{with_word_changed, unwritten, with_bytes_from}
@@ -33,12 +33,3 @@ returns-in-Some-clause-put c = λ is.
     (bytes-small (width c.args.size) c.args.value) c.requires.within
     (fits-word c.args.offset c.args.size c.requires.aligned) c.change.new.self
     (returns-in-Some-clause-words c)
-
-pub returns-else-len-eq-MOST-clause-put : goal.returns-else-len-eq-MOST-clause-put
-returns-else-len-eq-MOST-clause-put c = λ is.
-    store-put c.args.self.now c.self.inside.before.items c.self.inside.last.value
-    (subst (λ (ws : List Written). IsIndexed ws c.self.inside.before.items c.self.inside.last.value)
-    c.self.view_is c.self.invariant.0) c.args.frame c.args.offset (width c.args.size)
-    (bytes_of (width c.args.size) c.args.value) (length-bytes (width c.args.size) c.args.value)
-    (bytes-small (width c.args.size) c.args.value) c.requires.within
-    (fits-word c.args.offset c.args.size c.requires.aligned) c.add.new.self (search rules)

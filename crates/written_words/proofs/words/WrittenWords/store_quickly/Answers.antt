@@ -7,7 +7,7 @@ use Rattle.written_words.specs.Words.{with_word_changed, unwritten, with_bytes_f
 use Rattle.written_words.specs.Index.{IsIndexed}
 use Rattle.written_words.proofs.Indexing.{changed-one, is_at-key, length-bytes, some-at}
 use Rattle.written_words.proofs.Storing.{bytes-small, fits-word, store-put}
-use Rattle.written_words.proofs.words.WrittenWords.store_again.Goals as goal
+use Rattle.written_words.proofs.words.WrittenWords.store_quickly.Goals as goal
 
 pub returns-in-Some-clause-words : goal.returns-in-Some-clause-words
 returns-in-Some-clause-words c = λ is.
