@@ -44,7 +44,7 @@ fn a_word_over_the_end_of_a_block_is_seen_from_both(rt: HostRuntime) {
         1,
         &[
             (252, 2, Kind::Addi, false, 2),
-            (254, 1, Kind::End, false, 0),
+            (254, 1, Kind::Addi, false, 4),
             (258, 0, Kind::End, false, 2),
         ],
     );
@@ -58,7 +58,7 @@ fn a_word_over_the_end_of_a_block_is_seen_from_both(rt: HostRuntime) {
         1,
         &[
             (252, 2, Kind::Addi, false, 2),
-            (254, 1, Kind::End, false, 0),
+            (254, 1, Kind::Addi, false, 4),
             (258, 0, Kind::End, false, 2),
         ],
     );
@@ -92,7 +92,7 @@ fn a_block_leaves_the_others(rt: HostRuntime) {
         (514, 0x0089),
     ]);
     check_block(&rt, &mut pages, 0, 1, &page, true);
-    // the halfword at 512 is the one behind the block
+    // the halfword at 512 is the one behind the block, and its code is known again
     check_lines(
         &rt,
         &pages,
@@ -102,7 +102,7 @@ fn a_block_leaves_the_others(rt: HostRuntime) {
             (2, 0, Kind::Jalr, false, 2),
             (256, 1, Kind::End, false, 0),
             (258, 0, Kind::Jalr, false, 2),
-            (512, 1, Kind::End, false, 0),
+            (512, 1, Kind::Addi, false, 2),
             (514, 0, Kind::Jalr, false, 2),
         ],
     );
@@ -111,7 +111,7 @@ fn a_block_leaves_the_others(rt: HostRuntime) {
     check_form(&rt, &pages, 1, (1, 1, 0, 1));
     check_form(&rt, &pages, 3, (1, 1, 0, 2));
     check_form(&rt, &pages, 5, (1, 1, 0, 2));
-    // now the halfword at 514, and a word might have begun at 512
+    // now the halfword at 514, and a word might have begun at 512; no line follows that at 514
     check_block(&rt, &mut pages, 0, 2, &page, true);
     check_lines(
         &rt,
@@ -122,10 +122,11 @@ fn a_block_leaves_the_others(rt: HostRuntime) {
             (2, 0, Kind::Jalr, false, 2),
             (256, 1, Kind::Addi, false, 2),
             (258, 0, Kind::Jalr, false, 2),
-            (512, 1, Kind::End, false, 0),
+            (512, 1, Kind::Addi, false, 2),
             (514, 0, Kind::End, false, 0),
         ],
     );
+    check_known(&rt, &pages, 0, &[(256, 3), (258, 4), (512, 5), (514, 0)]);
     drop(pages);
 }
 
@@ -173,7 +174,7 @@ fn the_last_block_has_no_halfword_behind_it(rt: HostRuntime) {
         &pages,
         1,
         &[
-            (4092, 1, Kind::End, false, 0),
+            (4092, 1, Kind::Addi, false, 4),
             (4096, 0, Kind::End, false, 2),
         ],
     );

@@ -29,28 +29,29 @@ fn a_changed_word_is_known_again_in_its_place(rt: HostRuntime) {
             (10, 0, Kind::Jal, false, 4),
         ],
     );
-    // addi x1, x1, 2: its upper halfword alone is another
+    // addi x1, x0, 6 and addi x1, x1, 2: of each the upper halfword alone is another
     let page = page_with(&[
-        (0, 0x00500093),
+        (0, 0x00600093),
         (4, 0x00208093),
         (8, 0x0085),
         (10, 0x0080006F),
     ]);
     check_show(&rt, &mut pages, 0, &page, true);
-    // a stale line is still the one at which the code begins
+    // a stale line is still the one at which the code begins; that of the last is known again
     check_known(&rt, &pages, 0, &[(0, 1), (4, 2), (6, 0), (8, 3), (10, 4)]);
     check_lines(
         &rt,
         &pages,
         1,
         &[
-            (0, 3, Kind::Addi, false, 4),
-            (4, 2, Kind::End, false, 0),
+            (0, 3, Kind::End, false, 0),
+            (4, 2, Kind::Addi, false, 4),
             (8, 1, Kind::Addi, false, 2),
             (10, 0, Kind::Jal, false, 4),
         ],
     );
-    check_line(&rt, &mut pages, 0, 4, 2);
+    check_form(&rt, &pages, 2, (1, 1, 2, 2));
+    check_line(&rt, &mut pages, 0, 0, 1);
     check_lines(
         &rt,
         &pages,
@@ -62,7 +63,7 @@ fn a_changed_word_is_known_again_in_its_place(rt: HostRuntime) {
             (10, 0, Kind::Jal, false, 4),
         ],
     );
-    check_form(&rt, &pages, 2, (1, 1, 2, 2));
+    check_form(&rt, &pages, 1, (1, 0, 6, 6));
     check_known(&rt, &pages, 0, &[(0, 1), (4, 2), (6, 0), (8, 3), (10, 4)]);
     drop(pages);
 }
@@ -76,23 +77,22 @@ fn the_first_and_the_last_halfword_change(rt: HostRuntime) {
     check_line(&rt, &mut pages, 7, 4092, 3);
     let page = page_with(&[(0, 0x0089), (2, 0x8082), (4092, 0x0085), (4094, 0x0085)]);
     check_show(&rt, &mut pages, 7, &page, true);
-    check_known(&rt, &pages, 7, &[(0, 1), (2, 2), (4092, 3), (4094, 4)]);
-    // where a halfword is another, a word may have begun before it
+    // each is known again but the last: no line followed the jump, and the addition goes on
+    check_known(&rt, &pages, 7, &[(0, 1), (2, 2), (4092, 3), (4094, 0)]);
     check_lines(
         &rt,
         &pages,
         1,
         &[
-            (0, 1, Kind::End, false, 0),
+            (0, 1, Kind::Addi, false, 2),
             (2, 0, Kind::Jalr, false, 2),
-            (4092, 1, Kind::End, false, 0),
+            (4092, 1, Kind::Addi, false, 2),
             (4094, 0, Kind::End, false, 0),
         ],
     );
-    check_line(&rt, &mut pages, 7, 0, 1);
     check_form(&rt, &pages, 1, (1, 1, 0, 2));
+    check_line(&rt, &mut pages, 7, 0, 1);
     check_line(&rt, &mut pages, 7, 4092, 3);
-    // no line followed the jump, and the addition goes on
     check_line(&rt, &mut pages, 7, 4094, 5);
     check_known(&rt, &pages, 7, &[(0, 1), (2, 2), (4092, 3), (4094, 5)]);
     check_lines(
@@ -129,23 +129,13 @@ fn a_change_leaves_other_pages(rt: HostRuntime) {
         &[
             (64, 1, Kind::Addi, false, 2),
             (66, 0, Kind::Jalr, false, 2),
-            (64, 1, Kind::End, false, 0),
-            (66, 0, Kind::End, false, 0),
-        ],
-    );
-    // zeros have no meaning: an end, in its place
-    check_line(&rt, &mut pages, 1, 64, 3);
-    check_lines(
-        &rt,
-        &pages,
-        1,
-        &[
-            (64, 1, Kind::Addi, false, 2),
-            (66, 0, Kind::Jalr, false, 2),
+            // zeros have no meaning: an end, in its place
             (64, 1, Kind::End, false, 2),
-            (66, 0, Kind::End, false, 0),
+            (66, 0, Kind::End, false, 2),
         ],
     );
+    check_line(&rt, &mut pages, 1, 64, 3);
+    check_line(&rt, &mut pages, 0, 64, 1);
     drop(pages);
 }
 
@@ -157,8 +147,8 @@ fn a_word_that_becomes_two_halfwords_is_learnt_anew(rt: HostRuntime) {
     check_line(&rt, &mut pages, 0, 0, 1);
     let page = page_with(&[(0, 0x0085), (2, 0x0085), (4, 0x0085), (6, 0x8082)]);
     check_show(&rt, &mut pages, 0, &page, true);
-    check_known(&rt, &pages, 0, &[(0, 1), (2, 0), (4, 2), (6, 3)]);
     // the line behind it is at 4, and not at 2
+    check_known(&rt, &pages, 0, &[(0, 0), (2, 0), (4, 2), (6, 3)]);
     check_line(&rt, &mut pages, 0, 0, 4);
     check_known(&rt, &pages, 0, &[(0, 4), (2, 5), (4, 2), (6, 3)]);
     check_lines(
@@ -185,6 +175,7 @@ fn two_halfwords_that_become_a_word_are_learnt_anew(rt: HostRuntime) {
     check_line(&rt, &mut pages, 0, 0, 1);
     let page = page_with(&[(0, 0x00500093), (4, 0x8082)]);
     check_show(&rt, &mut pages, 0, &page, true);
+    check_known(&rt, &pages, 0, &[(0, 0), (2, 2), (4, 3)]);
     check_line(&rt, &mut pages, 0, 0, 4);
     check_known(&rt, &pages, 0, &[(0, 4), (2, 2), (4, 3)]);
     check_lines(
@@ -193,7 +184,8 @@ fn two_halfwords_that_become_a_word_are_learnt_anew(rt: HostRuntime) {
         1,
         &[
             (0, 2, Kind::End, false, 0),
-            (2, 1, Kind::End, false, 0),
+            // what 0x0050 stands for alone: c.addi4spn x12, 4
+            (2, 1, Kind::Addi, false, 2),
             (4, 0, Kind::Jalr, false, 2),
             (0, 1, Kind::Addi, false, 4),
             (4, 0, Kind::End, false, 2),
@@ -244,7 +236,8 @@ fn a_run_ends_where_a_stale_line_begins(rt: HostRuntime) {
     let page = page_with(&[(0, 0x00500093), (4, 0x8082)]);
     check_show(&rt, &mut pages, 0, &page, true);
     check_line(&rt, &mut pages, 0, 4, 1);
-    let page = page_with(&[(0, 0x00500093), (4, 0x0085), (6, 0x8082)]);
+    // the change at 100 is the last one
+    let page = page_with(&[(0, 0x00500093), (4, 0x0085), (6, 0x8082), (100, 0x0085)]);
     check_show(&rt, &mut pages, 0, &page, true);
     check_line(&rt, &mut pages, 0, 0, 2);
     check_known(&rt, &pages, 0, &[(0, 2), (4, 1), (6, 0)]);
@@ -272,7 +265,7 @@ fn a_code_that_no_longer_lies_in_the_page_is_forgotten(rt: HostRuntime) {
     check_line(&rt, &mut pages, 0, 4094, 1);
     // a word of which the page has two bytes
     check_show(&rt, &mut pages, 0, &page_with(&[(4094, 0x00500093)]), true);
-    check_known(&rt, &pages, 0, &[(4094, 1)]);
+    check_known(&rt, &pages, 0, &[(4094, 0)]);
     check_line(&rt, &mut pages, 0, 4094, 0);
     check_known(&rt, &pages, 0, &[(4094, 0)]);
     check_count(&rt, &pages, 3);

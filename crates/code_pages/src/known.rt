@@ -73,13 +73,21 @@ fn have_page(slot: &mut Option<Code>, alloc: Global) -> bool
     }
 }
 
-// a block of the page in a slot, and the halfword behind it, are those of these bytes from now on;
-// false, with nothing changed, where there is no memory
+// a block of the page in a slot, and the halfword behind it, are those of these bytes from now on,
+// and the last halfword that was another is noted; false, with nothing changed, where there is no
+// memory
 #[inline]
-fn check_in(slot: &mut Option<Code>, lines: &mut Vec<Line>, block: usize, bytes: &[u8]) -> bool
+fn check_in(
+    slot: &mut Option<Code>,
+    lines: &mut Vec<Line>,
+    block: usize,
+    bytes: &[u8],
+    last: &mut usize,
+) -> bool
     requires block { block < 16 }
     requires page { length bytes.now ≡ 4096 }
     requires known { IfSome slot.old (λ page. IsKnownPage lines.old.items page) }
+    requires last { last.old < 2048 }
     ensures known { IfSome slot.new (λ page. IsKnownPage lines.new.items page) }
     ensures lines { AreLinesKept lines.old.items lines.new.items }
     ensures bytes { result ≡ true → bytes_of_page slot.new
@@ -88,6 +96,7 @@ fn check_in(slot: &mut Option<Code>, lines: &mut Vec<Line>, block: usize, bytes:
         (starts_of_slot slot.new) }
     ensures same { result ≡ false → (slot.new ≡ slot.old) × (lines.new.items ≡ lines.old.items) }
     ensures capacity { vec_capacity lines.new ≡ vec_capacity lines.old }
+    ensures last { last.new < 2048 }
 {
     let alloc = *lines.allocator();
     if !have_page(slot, alloc) {
@@ -95,7 +104,7 @@ fn check_in(slot: &mut Option<Code>, lines: &mut Vec<Line>, block: usize, bytes:
     }
     match slot {
         Some(code) => {
-            code.check(lines, block, bytes);
+            code.check(lines, block, bytes, last);
             true
         }
         None => false,
@@ -238,6 +247,8 @@ impl CodePages {
 
     /// A block of 256 bytes of the page at a place, and the halfword behind it, are those of these
     /// bytes from now on. False, with nothing changed, where there is no such place, or no memory.
+    /// Where some were others, the code is known again that begins at the last changed halfword or
+    /// the one before it, as far as it was known: mostly no more than one instruction is another.
     #[inline(never)]
     pub fn check(&mut self, place: usize, block: usize, bytes: &[u8]) -> bool
         requires block { block < 16 }
@@ -250,10 +261,50 @@ impl CodePages {
         ensures same { result ≡ false → self.new ≡ self.old }
         ensures known { AreKnownPages self.old }
     {
+        let mut last = 128 * block;
+        if !self.check_block(place, block, bytes, &mut last) {
+            return false;
+        }
+        self.know_again(place, last.saturating_sub(1));
+        self.know_again(place, last);
+        true
+    }
+
+    // the same, but that code which has changed is stale; the last halfword of it is noted
+    #[inline(always)]
+    fn check_block(&mut self, place: usize, block: usize, bytes: &[u8], last: &mut usize) -> bool
+        requires block { block < 16 }
+        requires page { length bytes.now ≡ 4096 }
+        requires last { last.old < 2048 }
+        ensures pages { bytes_of_pages self.new ≡ (if result
+            then slice_set (bytes_of_pages self.old) place
+            (Some (with_block (page_bytes_at self.old place) block bytes.now))
+            else bytes_of_pages self.old) }
+        ensures there { result ≡ true → place < length self.old.pages }
+        ensures same { result ≡ false → self.new ≡ self.old }
+        ensures known { AreKnownPages self.old }
+        ensures last { last.new < 2048 }
+    {
         if place >= self.pages.len() {
             return false;
         }
-        check_in(&mut self.pages[place], &mut self.lines, block, bytes)
+        check_in(&mut self.pages[place], &mut self.lines, block, bytes, last)
+    }
+
+    // the code that begins at a halfword is known again where its line is stale
+    fn know_again(&mut self, place: usize, half: usize)
+        requires { half < 2048 }
+        ensures { bytes_of_pages self.new ≡ bytes_of_pages self.old }
+    {
+        let offset = (half + half) as u32;
+        let at = self.line_at(place, offset);
+        if at == 0 {
+            return;
+        }
+        if self.is_live(at) {
+            return;
+        }
+        let _known = self.renew(place, offset, at);
     }
 
     /// The lines.

@@ -1,7 +1,8 @@
 // What is learnt of a page's code.
 ghost use Rattle.std.specs.Prelude.{ℕ, ◌≡◌, ◌+◌, ◌*◌, ◌-◌, ◌/◌, ◌%◌, ◌<◌, ◌≤◌, ◌⊎◌, true, false};
 ghost use Rattle.std.specs.Prelude.{IfSome, IfOk, MatchOption, length, slice_set, slice_index};
-ghost use Rattle.std.specs.Prelude.{replicate};
+ghost use Rattle.std.specs.Prelude.{replicate, ◌∷◌, []};
+ghost use Rattle.std.specs.Int.{from_le_bytes, w32};
 ghost use Rattle.std.specs.Vec.{vec_len, vec_capacity};
 ghost use Rattle.code_pages.specs.Codes.{IsCodeIn};
 ghost use Rattle.code_pages.specs.Lines.{CodePage, start_at, unlearnt, IsKnownPage, AreLinesKept};
@@ -43,6 +44,40 @@ fn differ(a: &[u8; 4096], b: &[u8], from: usize, count: usize) -> bool
         all |= a[at] ^ b[at];
     }
     all != 0
+}
+
+// the number of the four bytes from a place on
+#[inline(always)]
+fn four_at(bytes: &[u8], at: usize) -> u32
+    requires { at + 4 ≤ length bytes.now }
+    ensures { result ≡ from_le_bytes w32 (slice_index bytes.now at
+        ∷ slice_index bytes.now (at + 1) ∷ slice_index bytes.now (at + 2)
+        ∷ slice_index bytes.now (at + 3) ∷ []) }
+{
+    u32::from_le_bytes([bytes[at], bytes[at + 1], bytes[at + 2], bytes[at + 3]])
+}
+
+// whether any of four bytes differs
+#[inline(always)]
+fn four_differ(a: &[u8; 4096], b: &[u8], at: usize) -> bool
+    requires within { at + 4 ≤ 4096 }
+    requires page { length b.now ≡ 4096 }
+    ensures { result ≡ false → AreSameIn at (at + 4) a.now b.now }
+{
+    four_at(a, at) != four_at(b, at)
+}
+
+// whether any of 8 bytes differs
+#[inline(always)]
+fn eight_differ(a: &[u8; 4096], b: &[u8], at: usize) -> bool
+    requires within { at + 8 ≤ 4096 }
+    requires page { length b.now ≡ 4096 }
+    ensures { result ≡ false → AreSameIn at (at + 8) a.now b.now }
+{
+    if four_differ(a, b, at) {
+        return true;
+    }
+    four_differ(a, b, at + 4)
 }
 
 // the line is stale from now on
@@ -161,17 +196,19 @@ impl Code {
         self.bytes[2 * half + 1] = high;
     }
 
-    // a halfword is what these bytes have there from now on
-    fn change_half(&mut self, lines: &mut Vec<Line>, bytes: &[u8], half: usize)
+    // a halfword is what these bytes have there from now on; where that is another, it is noted
+    fn change_half(&mut self, lines: &mut Vec<Line>, bytes: &[u8], half: usize, last: &mut usize)
         requires half { half < 2048 }
         requires page { length bytes.now ≡ 4096 }
         requires known { IsKnownPage lines.old.items self.old }
+        requires last { last.old < 2048 }
         ensures known { IsKnownPage lines.new.items self.new }
         ensures lines { AreLinesKept lines.old.items lines.new.items }
         ensures bytes { IsWrittenIn (2 * half) (2 * half + 2) self.old.bytes self.new.bytes
             bytes.now }
         ensures starts { self.new.starts ≡ self.old.starts }
         ensures capacity { vec_capacity lines.new ≡ vec_capacity lines.old }
+        ensures last { last.new < 2048 }
     {
         let low = bytes[2 * half];
         let high = bytes[2 * half + 1];
@@ -181,115 +218,130 @@ impl Code {
         self.unlearn(lines, half);
         self.unlearn(lines, half.saturating_sub(1));
         self.put(half, low, high);
+        *last = half;
     }
 
-    // 8 bytes are what these bytes have there from now on
-    #[inline]
-    fn change_eight(&mut self, lines: &mut Vec<Line>, bytes: &[u8], eight: usize)
+    // 8 bytes are what these bytes have there from now on; apart, so that who compares them before
+    // loads them at once and not one by one
+    #[inline(never)]
+    fn change_eight(&mut self, lines: &mut Vec<Line>, bytes: &[u8], eight: usize, last: &mut usize)
         requires eight { eight < 512 }
         requires page { length bytes.now ≡ 4096 }
         requires known { IsKnownPage lines.old.items self.old }
+        requires last { last.old < 2048 }
         ensures known { IsKnownPage lines.new.items self.new }
         ensures lines { AreLinesKept lines.old.items lines.new.items }
         ensures bytes { IsWrittenIn (8 * eight) (8 * eight + 8) self.old.bytes self.new.bytes
             bytes.now }
         ensures starts { self.new.starts ≡ self.old.starts }
         ensures capacity { vec_capacity lines.new ≡ vec_capacity lines.old }
+        ensures last { last.new < 2048 }
     {
         for half in 4 * eight..4 * eight + 4 {
-            self.change_half(lines, bytes, half);
+            self.change_half(lines, bytes, half, last);
         }
     }
 
     // the same, where they differ
     #[inline(always)]
-    fn match_eight(&mut self, lines: &mut Vec<Line>, bytes: &[u8], eight: usize)
+    fn match_eight(&mut self, lines: &mut Vec<Line>, bytes: &[u8], eight: usize, last: &mut usize)
         requires eight { eight < 512 }
         requires page { length bytes.now ≡ 4096 }
         requires known { IsKnownPage lines.old.items self.old }
+        requires last { last.old < 2048 }
         ensures known { IsKnownPage lines.new.items self.new }
         ensures lines { AreLinesKept lines.old.items lines.new.items }
         ensures bytes { IsWrittenIn (8 * eight) (8 * eight + 8) self.old.bytes self.new.bytes
             bytes.now }
         ensures starts { self.new.starts ≡ self.old.starts }
         ensures capacity { vec_capacity lines.new ≡ vec_capacity lines.old }
+        ensures last { last.new < 2048 }
     {
-        if differ(&self.bytes, bytes, 8 * eight, 8) {
-            self.change_eight(lines, bytes, eight);
+        if eight_differ(&self.bytes, bytes, 8 * eight) {
+            self.change_eight(lines, bytes, eight, last);
         }
     }
 
     // 64 bytes are what these bytes have there from now on
     #[inline(never)]
-    fn change_part(&mut self, lines: &mut Vec<Line>, bytes: &[u8], part: usize)
+    fn change_part(&mut self, lines: &mut Vec<Line>, bytes: &[u8], part: usize, last: &mut usize)
         requires part { part < 64 }
         requires page { length bytes.now ≡ 4096 }
         requires known { IsKnownPage lines.old.items self.old }
+        requires last { last.old < 2048 }
         ensures known { IsKnownPage lines.new.items self.new }
         ensures lines { AreLinesKept lines.old.items lines.new.items }
         ensures bytes { IsWrittenIn (64 * part) (64 * part + 64) self.old.bytes self.new.bytes
             bytes.now }
         ensures starts { self.new.starts ≡ self.old.starts }
         ensures capacity { vec_capacity lines.new ≡ vec_capacity lines.old }
+        ensures last { last.new < 2048 }
     {
         for eight in 8 * part..8 * part + 8 {
-            self.match_eight(lines, bytes, eight);
+            self.match_eight(lines, bytes, eight, last);
         }
     }
 
     // the same, where they differ
     #[inline(always)]
-    fn match_part(&mut self, lines: &mut Vec<Line>, bytes: &[u8], part: usize)
+    fn match_part(&mut self, lines: &mut Vec<Line>, bytes: &[u8], part: usize, last: &mut usize)
         requires part { part < 64 }
         requires page { length bytes.now ≡ 4096 }
         requires known { IsKnownPage lines.old.items self.old }
+        requires last { last.old < 2048 }
         ensures known { IsKnownPage lines.new.items self.new }
         ensures lines { AreLinesKept lines.old.items lines.new.items }
         ensures bytes { IsWrittenIn (64 * part) (64 * part + 64) self.old.bytes self.new.bytes
             bytes.now }
         ensures starts { self.new.starts ≡ self.old.starts }
         ensures capacity { vec_capacity lines.new ≡ vec_capacity lines.old }
+        ensures last { last.new < 2048 }
     {
         if differ(&self.bytes, bytes, 64 * part, 64) {
-            self.change_part(lines, bytes, part);
+            self.change_part(lines, bytes, part, last);
         }
     }
 
     // a block of 256 bytes is what these bytes have there from now on
     #[inline(always)]
-    fn match_block(&mut self, lines: &mut Vec<Line>, bytes: &[u8], block: usize)
+    fn match_block(&mut self, lines: &mut Vec<Line>, bytes: &[u8], block: usize, last: &mut usize)
         requires block { block < 16 }
         requires page { length bytes.now ≡ 4096 }
         requires known { IsKnownPage lines.old.items self.old }
+        requires last { last.old < 2048 }
         ensures known { IsKnownPage lines.new.items self.new }
         ensures lines { AreLinesKept lines.old.items lines.new.items }
         ensures bytes { IsWrittenIn (256 * block) (256 * block + 256) self.old.bytes
             self.new.bytes bytes.now }
         ensures starts { self.new.starts ≡ self.old.starts }
         ensures capacity { vec_capacity lines.new ≡ vec_capacity lines.old }
+        ensures last { last.new < 2048 }
     {
-        self.match_part(lines, bytes, 4 * block);
-        self.match_part(lines, bytes, 4 * block + 1);
-        self.match_part(lines, bytes, 4 * block + 2);
-        self.match_part(lines, bytes, 4 * block + 3);
+        self.match_part(lines, bytes, 4 * block, last);
+        self.match_part(lines, bytes, 4 * block + 1, last);
+        self.match_part(lines, bytes, 4 * block + 2, last);
+        self.match_part(lines, bytes, 4 * block + 3, last);
     }
 
     /// A block of 256 bytes, and the halfword behind it, which a word may lie in that begins in
-    /// the block, are what these bytes have there from now on.
+    /// the block, are what these bytes have there from now on. The last halfword that was another
+    /// is noted in `last`.
     #[inline]
-    pub fn check(&mut self, lines: &mut Vec<Line>, block: usize, bytes: &[u8])
+    pub fn check(&mut self, lines: &mut Vec<Line>, block: usize, bytes: &[u8], last: &mut usize)
         requires block { block < 16 }
         requires page { length bytes.now ≡ 4096 }
         requires known { IsKnownPage lines.old.items self.old }
+        requires last { last.old < 2048 }
         ensures known { IsKnownPage lines.new.items self.new }
         ensures lines { AreLinesKept lines.old.items lines.new.items }
         ensures bytes { self.new.bytes ≡ with_block self.old.bytes block bytes.now }
         ensures starts { self.new.starts ≡ self.old.starts }
         ensures capacity { vec_capacity lines.new ≡ vec_capacity lines.old }
+        ensures last { last.new < 2048 }
     {
-        self.match_block(lines, bytes, block);
+        self.match_block(lines, bytes, block, last);
         if block < 15 {
-            self.change_half(lines, bytes, 128 * block + 128);
+            self.change_half(lines, bytes, 128 * block + 128, last);
         }
     }
 

@@ -14,6 +14,7 @@ loop-half-init c = record {
       c.args.self.now.bytes c.args.bytes.now) e
       (written-none (8 * c.args.eight) c.args.self.now.bytes c.args.bytes.now);
   starts = refl;
+  last = c.requires.last;
   capacity = refl;
 }
 
@@ -30,6 +31,7 @@ loop-half-preserved c = record {
       c.args.self.now.bytes c.loop-half.self.bytes c.change_half.new.self.bytes c.args.bytes.now
       (search rules) (omega arith) c.loop-half.invariant.bytes c.change_half.ensures.bytes);
   starts = c.change_half.ensures.starts ∙ c.loop-half.invariant.starts;
+  last = c.change_half.ensures.last;
   capacity = search rules;
 }
 

@@ -1,4 +1,4 @@
-use Rattle.std.proofs.Common.{◌≡◌, ◌*◌}
+use Rattle.std.proofs.Common.{◌≡◌, ◌*◌, ◌<◌}
 use Rattle.std.specs.Vec.{vec_capacity}
 use Rattle.code_pages.specs.Lines.{IsWrittenIn, IsKnownPage, AreLinesKept}
 use Rattle.code_pages.proofs.learning.Code.change_eight.Given as goal
@@ -9,5 +9,6 @@ invariant-loop-half l = record {
   lines : AreLinesKept l.fn.lines.items l.lines.items;
   bytes : IsWrittenIn (8 * l.eight) (2 * l.half) l.fn.self.bytes l.self.bytes l.bytes;
   starts : l.self.starts ≡ l.fn.self.starts;
+  last : l.last < 2048;
   capacity : vec_capacity l.lines ≡ vec_capacity l.fn.lines;
 }

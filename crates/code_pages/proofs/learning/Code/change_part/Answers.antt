@@ -14,6 +14,7 @@ loop-eight-init c = record {
       c.args.self.now.bytes c.args.bytes.now) e
       (written-none (64 * c.args.part) c.args.self.now.bytes c.args.bytes.now);
   starts = refl;
+  last = c.requires.last;
   capacity = refl;
 }
 
@@ -30,6 +31,7 @@ loop-eight-preserved c = record {
       c.args.self.now.bytes c.loop-eight.self.bytes c.match_eight.new.self.bytes c.args.bytes.now
       (search rules) (omega arith) c.loop-eight.invariant.bytes c.match_eight.ensures.bytes);
   starts = c.match_eight.ensures.starts ∙ c.loop-eight.invariant.starts;
+  last = c.match_eight.ensures.last;
   capacity = search rules;
 }
 

@@ -4,12 +4,12 @@ use Rattle.code_pages.proofs.Bytes.{written-same}
 use Rattle.code_pages.proofs.LineLaws.{kept-all}
 use Rattle.code_pages.proofs.learning.Code.match_eight.Goals as goal
 
-pub returns-else-differ-clause-lines : goal.returns-else-differ-clause-lines
-returns-else-differ-clause-lines c = kept-all c.args.lines.now.items
+pub returns-else-eight_differ-clause-lines : goal.returns-else-eight_differ-clause-lines
+returns-else-eight_differ-clause-lines c = kept-all c.args.lines.now.items
 
-pub returns-else-differ-clause-bytes : goal.returns-else-differ-clause-bytes
-returns-else-differ-clause-bytes c =
+pub returns-else-eight_differ-clause-bytes : goal.returns-else-eight_differ-clause-bytes
+returns-else-eight_differ-clause-bytes c =
     written-same (8 * c.args.eight) (8 * c.args.eight + 8) c.args.self.now.bytes c.args.bytes.now
     (subst (λ (xs : List ℕ). AreSameIn (8 * c.args.eight) (8 * c.args.eight + 8) xs
     c.args.bytes.now) (c.deref.ensures ∙ ap (λ (p : CodePage). p.bytes) c.self.view_is)
-    (c.differ.ensures c.if-differ.false))
+    (c.eight_differ.ensures c.if-eight_differ.false))

@@ -3,7 +3,7 @@ use Rattle.std.specs.Prelude.{slice_get, slice_set, if◌then◌else◌}
 use Rattle.std.proofs.lemmas.Option.{slice_get-get_or}
 use Rattle.code_pages.specs.Lines.{Known, bytes_of_pages, with_block, page_bytes_at}
 use Rattle.code_pages.proofs.KnownLaws.{known-checked, checked-bytes}
-use Rattle.code_pages.proofs.known.CodePages.check.Goals as goal
+use Rattle.code_pages.proofs.known.CodePages.check_block.Goals as goal
 
 pub invariant_of-self : goal.invariant_of-self
 invariant_of-self c =
