@@ -4,6 +4,7 @@ pub mod Apart
 pub mod Paged
 pub mod Owned
 pub mod Buffers
+pub mod AtOnce
 pub mod Reaching
 pub mod RunSteps
 pub mod Flying

@@ -81,6 +81,10 @@ module _ (t : ℕ) (s : Store) (entries : List (ℕ × Entry)) (home : AreHome s
       let page = home-at s.pages frame home (within-of access address frame h) in
       read-home s.pages words frame page.0 page.1
 
+  pub all-here : AreReached t (map (owner_for t) s.owners) entries s.pages
+  all-here = λ access address frame h.
+      home-here s.pages frame home (within-of access address frame h)
+
   pub all-owned : AreOwn t (map (owner_for t) s.owners) entries (is_here s.pages)
   all-owned = λ access address frame writes h.
       home-here s.pages frame home (within-of access address frame h)

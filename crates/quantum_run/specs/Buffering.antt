@@ -2,9 +2,10 @@
 -- This project's own rules.
 use Rattle.std.specs.Prelude.{ℕ, ◌≡◌, ◌-◌, ◌/◌, ◌%◌, ◌<◌, ◌≤◌, Err, MatchOption}
 use Rattle.std.specs.Prelude.{false, List, [], ◌∷◌, map, take, drop, Option, Some}
-use Rattle.std.specs.Prelude.{None, if◌then◌else◌}
+use Rattle.std.specs.Prelude.{if◌then◌else◌, option_map}
 use Rattle.std.specs.Str.{bytes_eq}
 use Rattle.dos_world.specs.World.{World, Registers, page_size}
+use Rattle.dos_world.specs.Reach.{written}
 use Rattle.dos_world.specs.declared.Reason.{Reason}
 use Rattle.dos_world.specs.declared.Entry.{Entry}
 use Rattle.dos_world.specs.declared.Owner.{Owner}
@@ -25,6 +26,16 @@ abbrev pub buffer_places : List ℕ → Places (List Written)
 buffer_places bytes = record {
   bytes = λ words. words_put bytes words;
   write = λ words place new. with_stored words (place / page_size) (place % page_size) new;
+  claims = false;
+}
+
+-- The same where each word is put in memory as it is written: the bytes, and the words that have
+-- been put into them.
+abbrev pub through_places : Places (List ℕ × List Written)
+through_places = record {
+  bytes = λ m. m.0;
+  write = λ m place new. option_map (λ words. (written m.0 place new, words))
+      (with_stored m.1 (place / page_size) (place % page_size) new);
   claims = false;
 }
 

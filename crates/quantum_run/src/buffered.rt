@@ -97,7 +97,13 @@ fn store_word(words: &mut WrittenWords, frame: u32, number: u32, value: u32) -> 
 
 // the same of any size
 #[inline(always)]
-fn store(words: &mut WrittenWords, frame: u32, offset: u32, size: Size, value: u32) -> bool
+pub(crate) fn store(
+    words: &mut WrittenWords,
+    frame: u32,
+    offset: u32,
+    size: Size,
+    value: u32,
+) -> bool
     requires within { offset < 4096 }
     requires aligned { offset % width size ≡ 0 }
     ensures words { with_stored words.old frame offset (bytes_of (width size) value)
@@ -157,7 +163,7 @@ impl<'a> Buffered<'a> {
         self.read_over(frame, 4 * number, Size::Word)
     }
 
-    // the same, at first sight where it is found so
+    // the same, without a search where it takes none
     #[inline(never)]
     fn read_word(&self, frame: u32, number: u32) -> u32
         requires home { IsPageHere (pages_read self.now.frames.now.pages self.now.words) frame }

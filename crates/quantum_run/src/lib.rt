@@ -15,6 +15,7 @@ mod run;
 mod slots;
 mod slowly;
 mod thread_memory;
+mod through;
 
-pub use pack::{Pack, Shared, View, run_out, run_pack, run_slice};
+pub use pack::{Pack, Shared, View, run_alone, run_out, run_pack, run_slice};
 pub use run::{run_until_address, run_until_stop};

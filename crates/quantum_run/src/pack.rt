@@ -1,15 +1,16 @@
 // A thread with the pages that are its own, apart from the frames.
 ghost use Rattle.std.specs.Prelude.{◌≡◌, ◌<◌, ◌≤◌, ◌+◌, ◌++◌, ◌∷◌, [], length, map, replicate};
 ghost use Rattle.std.specs.Prelude.{true, false, Some, None, IfOk, MatchOption};
-ghost use Rattle.page_store.specs.Store.{whole};
+ghost use Rattle.page_store.specs.Store.{AreHome, joined, whole};
+ghost use Rattle.written_words.specs.Words.{words_put};
 ghost use Rattle.quantum_run.specs.Shows.{CanRun, Finished, LeadsTo, RanFor, RanOut, begun_pack};
 ghost use Rattle.quantum_run.specs.Shows.{frames_of, has_words};
 ghost use Rattle.quantum_run.specs.Packs.{HoldsNo, empty_pack, empty_writing, seen_by_view};
 ghost use Rattle.quantum_run.specs.Packs.{seen_in, with_own_page, with_thread_of, without_words};
-ghost use Rattle.quantum_run.specs.Packs.{words_held};
+ghost use Rattle.quantum_run.specs.Packs.{view_of, words_held};
 
 use crate::page_places::Places;
-use crate::run::{run_lent, run_over};
+use crate::run::{run_lent, run_over, run_through};
 use code_pages::CodePages;
 use dos_world::Regs;
 use page_store::{Frames, Page};
@@ -331,4 +332,41 @@ fn run_words(pack: &mut Pack, view: &View<'_>, most: u32) -> bool
     *pack.regs = regs;
     pack.left = left;
     why.is_some() || end == 0
+}
+
+/// Runs the pack's thread as `run_pack` does where it has words, none yet, and is the only one to
+/// run: over the frames in place, into which each word is put as it is written. So the frames are
+/// left as they were with all the pack's words put in; owners, uses and marks stay.
+pub fn run_alone(pack: &mut Pack, frames: &mut Frames, table: &Table)
+    requires words { pack.old.words ≡ Some [] }
+    requires can { CanRun pack.old (view_of frames.old table.now) }
+    ensures finished { Finished pack.old (view_of frames.old table.now) pack.new }
+    ensures thread { pack.new.thread ≡ pack.old.thread }
+    ensures process { pack.new.process ≡ pack.old.process }
+    ensures frames { frames_of pack.new.pages ≡ frames_of pack.old.pages }
+    ensures budget { pack.new.budget ≤ pack.old.budget }
+    ensures room { pack.new.room ≡ pack.old.room }
+    ensures puts { joined frames.new.pages
+        ≡ words_put (joined frames.old.pages) (words_held pack.new) }
+    ensures owners { frames.new.owners ≡ frames.old.owners }
+    ensures uses { frames.new.uses ≡ frames.old.uses }
+    ensures marked { frames.new.marked ≡ frames.old.marked }
+    ensures home { AreHome frames.new }
+{
+    // that each page has an owner is known of the frames themselves
+    let _count = frames.count();
+    pack.begin();
+    let space = table.space(pack.pid);
+    let mut regs = *pack.regs;
+    let mut left = pack.left;
+    let _stop = run_through(
+        frames,
+        space,
+        pack.tid,
+        &mut pack.words,
+        &mut regs,
+        &mut left,
+    );
+    *pack.regs = regs;
+    pack.left = left;
 }

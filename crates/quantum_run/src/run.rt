@@ -1,14 +1,16 @@
 // The loop, over any memory and in place.
 ghost use Rattle.std.specs.Prelude.{◌≡◌, ◌<◌, ◌≤◌, ◌+◌, ◌-◌, ◌⊎◌, ℕ, List, Some, Err, MatchOption};
-ghost use Rattle.std.specs.Prelude.{Option, length, map, is_some, true};
+ghost use Rattle.std.specs.Prelude.{Option, [], length, map, is_some, true};
 ghost use Rattle.std.specs.Borrow.{GName};
 ghost use Rattle.dos_world.specs.World.{World, with_pc};
-ghost use Rattle.page_store.specs.Store.{AreHome};
+ghost use Rattle.page_store.specs.Store.{AreHome, joined};
 ghost use Rattle.rv_exec.specs.Runs.{GoesTo};
 ghost use Rattle.flat_machine.specs.Over.{one_in};
 ghost use Rattle.flat_machine.specs.Step.{step};
 ghost use Rattle.code_pages.specs.Lines.{bytes_of_pages};
-ghost use Rattle.quantum_run.specs.Buffering.{HasWritten};
+ghost use Rattle.written_words.specs.declared.Written.{Written};
+ghost use Rattle.written_words.specs.Words.{words_put};
+ghost use Rattle.quantum_run.specs.Buffering.{HasWritten, RanOver};
 ghost use Rattle.quantum_run.specs.Pages.{AreOwn, AreReached, AreWithin, is_here, overlay};
 ghost use Rattle.quantum_run.specs.ThreadRuns.{AreElsewhere, AreMapped, Goes, IsRunOf, Reaches};
 ghost use Rattle.quantum_run.specs.ThreadRuns.{StartsElsewhere, is_stop_at, run_to};
@@ -25,6 +27,7 @@ use crate::page_places::{Places, write_out};
 use crate::pages::{InPlace, Pages};
 use crate::slowly::{learns, slowly};
 use crate::thread_memory::Running;
+use crate::through::Through;
 use code_pages::CodePages;
 use dos_world::{Reason, Regs};
 use page_store::{Compared, Frames, Page};
@@ -545,4 +548,132 @@ pub fn run_until_stop(
     ensures home { AreHome frames.new }
 {
     run_until_address(frames, space, tid, regs, budget, &[])
+}
+
+/// The run of a thread over the frames, with words of its own, none yet, each of which is put in
+/// memory as it is written.
+fn run_known(
+    frames: &mut Frames,
+    space: &Space,
+    tid: u32,
+    code: &mut CodePages,
+    compared: &mut Compared,
+    words: &mut Option<WrittenWords>,
+    regs: &mut Regs,
+    budget: &mut u32,
+) -> Option<Reason>
+    requires words { words.old ≡ Some [] }
+    requires home { AreHome frames.old }
+    requires mapped { AreMapped frames.old space.now.entries }
+    requires right { AreRight compared.old.slots compared.old.blocks frames.old.pages
+        (bytes_of_pages code.old) }
+    ensures right { AreRight compared.new.slots compared.new.blocks frames.new.pages
+        (bytes_of_pages code.new) }
+    ensures written { HasWritten frames.old space.now.entries tid regs.old regs.new words.old
+        words.new budget.old budget.new 0 result }
+    ensures puts { (now : List Written) → words.new ≡ Some now
+        → joined frames.new.pages ≡ words_put (joined frames.old.pages) now }
+    ensures owners { frames.new.owners ≡ frames.old.owners }
+    ensures uses { frames.new.uses ≡ frames.old.uses }
+    ensures marked { frames.new.marked ≡ frames.old.marked }
+    ensures home { AreHome frames.new }
+{
+    match words {
+        Some(own) => run_with(frames, space, tid, code, compared, own, regs, budget),
+        None => unreachable!(),
+    }
+}
+
+/// The same with these words.
+#[inline(always)]
+fn run_with<'a>(
+    frames: &'a mut Frames,
+    space: &Space,
+    tid: u32,
+    code: &mut CodePages,
+    compared: &'a mut Compared,
+    words: &'a mut WrittenWords,
+    regs: &mut Regs,
+    budget: &mut u32,
+) -> Option<Reason>
+    requires words { words.old ≡ [] }
+    requires home { AreHome frames.old }
+    requires mapped { AreMapped frames.old space.now.entries }
+    requires right { AreRight compared.old.slots compared.old.blocks frames.old.pages
+        (bytes_of_pages code.old) }
+    ensures right { AreRight compared.new.slots compared.new.blocks frames.new.pages
+        (bytes_of_pages code.new) }
+    ensures written { RanOver frames.old space.now.entries tid regs.old regs.new [] words.new
+        budget.old budget.new 0 result }
+    ensures puts { (now : List Written) → words.new ≡ now
+        → joined frames.new.pages ≡ words_put (joined frames.old.pages) now }
+    ensures owners { frames.new.owners ≡ frames.old.owners }
+    ensures uses { frames.new.uses ≡ frames.old.uses }
+    ensures marked { frames.new.marked ≡ frames.old.marked }
+    ensures home { AreHome frames.new }
+{
+    let pages = Through {
+        place: InPlace { frames },
+        words,
+        tid,
+    };
+    let mut memory = Running::new(pages, space, compared, tid, code.hints());
+    let stop = run(&mut memory, code, regs, budget, 0);
+    code.keep_hints(memory.hints);
+    stop
+}
+
+/// The run of a thread over the frames, all home, until its budget is 0, with words of its own,
+/// none yet, each of which is put in memory as it is written: so the frames are left as they were
+/// with all of them put in.
+pub(crate) fn run_through(
+    frames: &mut Frames,
+    space: &Space,
+    tid: u32,
+    words: &mut Option<WrittenWords>,
+    regs: &mut Regs,
+    budget: &mut u32,
+) -> Option<Reason>
+    requires words { words.old ≡ Some [] }
+    requires home { AreHome frames.old }
+    requires mapped { AreMapped frames.old space.now.entries }
+    ensures written { HasWritten frames.old space.now.entries tid regs.old regs.new words.old
+        words.new budget.old budget.new 0 result }
+    ensures puts { (now : List Written) → words.new ≡ Some now
+        → joined frames.new.pages ≡ words_put (joined frames.old.pages) now }
+    ensures owners { frames.new.owners ≡ frames.old.owners }
+    ensures uses { frames.new.uses ≡ frames.old.uses }
+    ensures marked { frames.new.marked ≡ frames.old.marked }
+    ensures home { AreHome frames.new }
+{
+    match frames.take_known() {
+        Some((mut code, mut compared)) => {
+            let stop = run_known(
+                frames,
+                space,
+                tid,
+                &mut code,
+                &mut compared,
+                words,
+                regs,
+                budget,
+            );
+            frames.keep_known(code, compared);
+            stop
+        }
+        None => {
+            let mut code = CodePages::empty(frames.allocator());
+            let mut compared = Compared::nothing();
+            run_known(
+                frames,
+                space,
+                tid,
+                &mut code,
+                &mut compared,
+                words,
+                regs,
+                budget,
+            )
+        }
+    }
 }
