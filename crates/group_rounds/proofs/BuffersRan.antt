@@ -26,7 +26,7 @@ use Rattle.quantum_run.proofs.Writing.{joined-whole}
 use Rattle.worker_pool.specs.Ran.{AllCanRun, AllRan, HasRun, budgets_left}
 use Rattle.kernel_calls.specs.StateWorld.{IsSound, sent, world_of}
 use Rattle.kernel_calls.specs.declared.state.State.{State}
-use Rattle.group_rounds.specs.Buffers.{CanBePut, part_in, parts_put}
+use Rattle.group_rounds.specs.Buffers.{CanBePut, HaveNoWords, part_in, parts_put}
 use Rattle.group_rounds.specs.Handing.{AreOnce, AreSpare, emptied_pack, pack_of, view_of}
 use Rattle.group_rounds.specs.Parts.{KeepsCount, budget_in, work_between}
 use Rattle.group_rounds.specs.Phases.{AreLive}
@@ -223,6 +223,11 @@ module _ (s : State) (sound : IsSound s) (ts : List ℕ) (live : AreLive s.table
           (sent o e (world_of q s)) (sees-it q o e)
           ∙ ap (pack_left opened)
           (sym (ap (part_of_thread (sent o e (world_of q s)) t) found.is))
+
+  pub none-written : HaveNoWords ps
+  none-written i p here =
+      let t = beside ts ps i p as-filled here in
+      ap (λ (x : Pack). x.words) (filled-is i t.0 p t.1 here)
 
   pub all-can-write : AllCanRun view ps
   all-can-write i p here =

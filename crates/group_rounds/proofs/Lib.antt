@@ -18,6 +18,7 @@ pub mod SignalLaws
 pub mod RipenLaws
 pub mod PacksWork
 pub mod BuffersRan
+pub mod OnlyPack
 pub mod InPlaceLaws
 pub mod AwayLaws
 pub mod ServesLaws

@@ -1,5 +1,5 @@
 -- What packs with words have left, and how it is put in. This project's own rules.
-use Rattle.std.specs.Prelude.{List, [], ◌∷◌}
+use Rattle.std.specs.Prelude.{ℕ, ◌≡◌, List, [], ◌∷◌, Some, slice_get}
 use Rattle.dos_world.specs.World.{World}
 use Rattle.dos_laws.specs.Taken.{IsPartIn}
 use Rattle.flat_machine.specs.Buffered.{Part, part, with_part}
@@ -21,3 +21,7 @@ parts_put w (p ∷ ps) = parts_put (with_part w p.thread (part_in p)) ps
 pub record CanBePut (s : State) (p : Pack) : Type 0 where
   pub live : IsLiveThread s.table.threads p.thread
   pub part_is : IsPartIn s.frames.owners (part_in p)
+
+-- The packs have words, and none is written yet.
+abbrev pub HaveNoWords : List Pack → Type 0
+HaveNoWords packs = (i : ℕ) (p : Pack) → slice_get packs i ≡ Some p → p.words ≡ Some []

@@ -1,21 +1,25 @@
 // The parallel phase in the buffered scheme: the packs run over memory as it is, with words of
-// their own, and what each has written is put in memory in thread order.
-ghost use Rattle.std.specs.Prelude.{◌≡◌, ◌≤◌, ◌+◌, [], ℕ, List, All, IsSome, length};
+// their own, and what each has written is put in memory in thread order. Where there is one pack,
+// its words are put in memory as they are written.
+ghost use Rattle.std.specs.Prelude.{◌≡◌, ◌≤◌, ◌<◌, ◌+◌, ◌-◌, ◌^◌, [], ℕ, List, All, IsSome, Some};
+ghost use Rattle.std.specs.Prelude.{length, true};
 ghost use Rattle.std.specs.Vec.{vec_capacity};
 ghost use Rattle.dos_laws.specs.Taken.{IsPartIn};
 ghost use Rattle.flat_machine.specs.Buffered.{with_part};
 ghost use Rattle.kernel_calls.specs.StateWorld.{IsSound, StaysInRound, sent, world_of};
 ghost use Rattle.proc_table.specs.Tables.{IsLiveThread};
 ghost use Rattle.quantum_run.specs.Packs.{empty_writing};
-ghost use Rattle.worker_pool.specs.Ran.{GrewBy};
-ghost use Rattle.group_rounds.specs.Buffers.{CanBePut, part_in, parts_put};
-ghost use Rattle.group_rounds.specs.Handing.{AreOnce, AreSpare};
+ghost use Rattle.quantum_run.specs.Shows.{CanRun, Pack as pack_value};
+ghost use Rattle.worker_pool.specs.Ran.{AllCanRun, AllRan, GrewBy, HasRun, budgets_left};
+ghost use Rattle.group_rounds.specs.Buffers.{CanBePut, HaveNoWords, part_in, parts_put};
+ghost use Rattle.group_rounds.specs.Handing.{AreOnce, AreSpare, view_of};
 ghost use Rattle.group_rounds.specs.Parts.{KeepsCount, work_between};
 ghost use Rattle.group_rounds.specs.Phases.{AreLive, HavePutParts};
 
+use crate::in_place::is_callers;
 use crate::packs::{fill_each, keep, run_out};
 use kernel_calls::{State, commit};
-use quantum_run::{Pack, Shared};
+use quantum_run::{Pack, Shared, run_alone};
 use worker_pool::Workers;
 
 // a thread's part, as its pack has left it, is put into the state
@@ -44,6 +48,104 @@ fn put_parts(state: &mut State, packs: &[Pack])
     for place in 0..packs.len() {
         put_part(state, &packs[place]);
     }
+}
+
+// the part of the only pack, whose words are put in memory as they are written: how many
+// instructions it did
+fn run_through(state: &mut State, pack: &mut Pack) -> u32
+    requires sound { IsSound state.old }
+    requires words { pack.old.words ≡ Some [] }
+    requires can { CanRun pack.old (view_of state.old.frames state.old.table) }
+    requires part { (after : pack_value)
+        → HasRun (view_of state.old.frames state.old.table) pack.old after
+        → CanBePut state.old after }
+    ensures runs { HasRun (view_of state.old.frames state.old.table) pack.old pack.new }
+    ensures puts { (q : ℕ) (o e : List ℕ)
+        → with_part (sent o e (world_of q state.old)) pack.new.thread (part_in pack.new)
+        ≡ sent o e (world_of q state.new) }
+    ensures sound { IsSound state.new }
+    ensures round { StaysInRound state.old state.new }
+    ensures paid { pack.old.budget ≡ result + pack.new.budget }
+{
+    let budget = pack.budget();
+    run_alone(pack, &mut state.frames, &state.table);
+    // that each page has an owner is known of the frames themselves
+    let _count = state.frames.count();
+    state.table.set_run(pack.tid(), *pack.regs(), pack.budget());
+    budget - pack.budget()
+}
+
+// the parts of all packs, of which there is one
+fn run_only<W: Workers>(state: &mut State, packs: &mut Vec<Pack>, workers: &mut W)
+    requires one { length packs.old.items ≡ 1 }
+    requires sound { IsSound state.old }
+    requires words { HaveNoWords packs.old.items }
+    requires can { AllCanRun (view_of state.old.frames state.old.table) packs.old.items }
+    requires parts { (after : List pack_value)
+        → AllRan (view_of state.old.frames state.old.table) packs.old.items after
+        → All (CanBePut state.old) after }
+    ensures runs { AllRan (view_of state.old.frames state.old.table) packs.old.items
+        packs.new.items }
+    ensures puts { (q : ℕ) (o e : List ℕ)
+        → parts_put (sent o e (world_of q state.old)) packs.new.items
+        ≡ sent o e (world_of q state.new) }
+    ensures sound { IsSound state.new }
+    ensures round { StaysInRound state.old state.new }
+    ensures count { KeepsCount state.old state.new }
+    ensures room { vec_capacity packs.old ≤ vec_capacity packs.new }
+    ensures tally { GrewBy (W.tally workers.old) (W.tally workers.new)
+        (budgets_left packs.old.items - budgets_left packs.new.items) }
+    ensures fixed { W.fixed workers.new ≡ W.fixed workers.old }
+{
+    let work = run_through(state, &mut packs[0]);
+    workers.add(u64::from(work));
+}
+
+// whether there is one pack, which the caller's own thread would run
+fn is_only<W: Workers>(workers: &W, packs: usize) -> bool
+    ensures { result ≡ true → packs ≡ 1 }
+{
+    if packs != 1 {
+        return false;
+    }
+    is_callers(workers, packs)
+}
+
+// each pack runs, and what each has written is put in, in their order
+fn run_and_put<W: Workers>(
+    state: &mut State,
+    stand_in: &mut Option<Shared>,
+    packs: &mut Vec<Pack>,
+    workers: &mut W,
+)
+    requires count { length packs.old.items < 2 ^ 32 }
+    requires sound { IsSound state.old }
+    requires words { HaveNoWords packs.old.items }
+    requires can { AllCanRun (view_of state.old.frames state.old.table) packs.old.items }
+    requires parts { (after : List pack_value)
+        → AllRan (view_of state.old.frames state.old.table) packs.old.items after
+        → All (CanBePut state.old) after }
+    requires stand_in { IsSome stand_in.old }
+    ensures runs { AllRan (view_of state.old.frames state.old.table) packs.old.items
+        packs.new.items }
+    ensures puts { (q : ℕ) (o e : List ℕ)
+        → parts_put (sent o e (world_of q state.old)) packs.new.items
+        ≡ sent o e (world_of q state.new) }
+    ensures sound { IsSound state.new }
+    ensures round { StaysInRound state.old state.new }
+    ensures count { KeepsCount state.old state.new }
+    ensures stand_in { IsSome stand_in.new }
+    ensures room { vec_capacity packs.old ≤ vec_capacity packs.new }
+    ensures tally { GrewBy (W.tally workers.old) (W.tally workers.new)
+        (budgets_left packs.old.items - budgets_left packs.new.items) }
+    ensures fixed { W.fixed workers.new ≡ W.fixed workers.old }
+{
+    if is_only(workers, packs.len()) {
+        run_only(state, packs, workers);
+        return;
+    }
+    run_out(state, stand_in, packs, workers);
+    put_parts(state, packs.as_slice());
 }
 
 // the packs are spare
@@ -94,7 +196,6 @@ pub(crate) fn buffered_packs<W: Workers>(
     ensures stand_in { IsSome stand_in.new }
 {
     fill_each(&state.table, starters, spare, packs);
-    run_out(state, stand_in, packs, workers);
-    put_parts(state, packs.as_slice());
+    run_and_put(state, stand_in, packs, workers);
     keep_each(packs, spare);
 }

@@ -41,7 +41,7 @@ struct Row {
 /// Two threads. The first does 4 instructions in the first round, up to the service that makes the
 /// other. All pages are the first's, so where pages have owners, the other does nothing in the
 /// second parallel phase, and all in the serial one, behind the first.
-const TOGETHER: [Row; 8] = [
+const TOGETHER: [Row; 10] = [
     // 9 instructions of each before it yields
     Row {
         name: "each sees the other's flag as it was, and both flags stand",
@@ -103,10 +103,36 @@ const TOGETHER: [Row; 8] = [
         work: 10,
         words: &[(0x1_1008, 7), (0x1_100c, 0x900_0501)],
     },
+    // of each 2, and 3 for each of 1024 words; the next store is done in the serial phase
+    Row {
+        name: "the 1025th word stops each part",
+        guest: &[&MAKES_ANOTHER, &WRITES_1025, &YIELDS],
+        scheme: Scheme::Buffered,
+        work: 6152,
+        words: &[
+            (0x1_1000, 0x1_1000),
+            (0x1_1ffc, 0x1_1ffc),
+            (0x1_2000, 0x1_2000),
+            (0x1_2004, 0),
+        ],
+    },
+    // of the first 3 more for the last word, and 1 before it yields
+    Row {
+        name: "the first writes 1025 words",
+        guest: &[&MAKES_ANOTHER, &WRITES_1025, &YIELDS],
+        scheme: Scheme::Ownership,
+        work: 3082,
+        words: &[
+            (0x1_1000, 0x1_1000),
+            (0x1_1ffc, 0x1_1ffc),
+            (0x1_2000, 0x1_2000),
+            (0x1_2004, 0),
+        ],
+    },
 ];
 
-/// One thread, which does 1 instruction in the first round, before it yields, and which stores in
-/// the second, 3 instructions a word.
+/// One thread, whose words are put in memory as it writes them, and which does 1 instruction in the
+/// first round, before it yields, and stores in the second, 3 instructions a word.
 const MANY_WORDS: [Row; 4] = [
     // 2 instructions, and 3 for each of 1024 words; the next store is done in the serial phase
     Row {
