@@ -8,8 +8,7 @@ ghost use Rattle.code_pages.specs.Lines.{AreKnownPages, AreStartsOf, Known, byte
 ghost use Rattle.quantum_run.specs.Finding.{page_start};
 ghost use Rattle.quantum_run.specs.Flying.{IsLineOf};
 ghost use Rattle.quantum_run.specs.Knowing.{code_place, slot_of};
-ghost use Rattle.quantum_run.specs.Answering.{Still, run_answers, still};
-ghost use Rattle.quantum_run.specs.Showing.{ShowsKnown};
+ghost use Rattle.quantum_run.specs.Answering.{Still, run_answers};
 ghost use Rattle.quantum_run.specs.ThreadRuns.{AreElsewhere, AreOutside, Reaches, ReachesIn};
 
 use crate::extent::{Between, Extent, Whole};
@@ -19,6 +18,7 @@ use crate::slots::{code_place, slot_place};
 use crate::thread_memory::Running;
 use code_pages::{CodePages, line_from};
 use dos_world::Regs;
+use rv_exec::Memory;
 
 /// Where instructions led, what is left of the budget, and the line there, which needs a search or
 /// stops; 0 where none is known or told.
@@ -75,18 +75,11 @@ fn fly_in_page<P: Pages, E: Extent>(
     pc: u32,
     budget: u32,
 ) -> Leg
-    ensures reaches { (f : Still × (P.Fixed × GName)) (m : P.State) → ShowsKnown
-        (still memory.old.tid (P.owners memory.old.pages) memory.old.space.now.entries)
-        (P.fixed memory.old.pages, memory.old.compared.ghost_name) (P.state memory.old.pages)
-        (P.pages memory.old.pages)
-        memory.old.compared.now.slots memory.old.compared.now.blocks (f, bytes_of_pages code.now) m
-        → ReachesIn (page_start pc) (run_answers f.0 (P.places f.1.0)) (ShowsKnown
-        (still memory.new.tid (P.owners memory.new.pages) memory.new.space.now.entries)
-        (P.fixed memory.new.pages, memory.new.compared.ghost_name) (P.state memory.new.pages)
-        (P.pages memory.new.pages)
-        memory.new.compared.now.slots memory.new.compared.now.blocks (f, bytes_of_pages code.now))
-        (with_pc regs.old pc) m
-        (with_pc regs.new result.pc) (budget - result.left) }
+    ensures reaches { (f : Still × (P.Fixed × GName)) (m : P.State)
+        → ⟦<Running<'static, P> as Memory>⟧.shows memory.old (f, bytes_of_pages code.now) m
+        → ReachesIn (page_start pc) (run_answers f.0 (P.places f.1.0))
+        (⟦<Running<'static, P> as Memory>⟧.shows memory.new (f, bytes_of_pages code.now))
+        (with_pc regs.old pc) m (with_pc regs.new result.pc) (budget - result.left) }
     ensures within { result.left ≤ budget }
     ensures on { result.goes_on ≡ true → result.left < budget }
     ensures line { (result.at ≡ 0) ⊎ IsLineOf memory.new.shown memory.new.compared.now.blocks
@@ -171,18 +164,11 @@ pub fn fly<P: Pages>(
     pc: u32,
     budget: u32,
 ) -> Flown
-    ensures reaches { (f : Still × (P.Fixed × GName)) (m : P.State) → ShowsKnown
-        (still memory.old.tid (P.owners memory.old.pages) memory.old.space.now.entries)
-        (P.fixed memory.old.pages, memory.old.compared.ghost_name) (P.state memory.old.pages)
-        (P.pages memory.old.pages)
-        memory.old.compared.now.slots memory.old.compared.now.blocks (f, bytes_of_pages code.now) m
-        → Reaches (run_answers f.0 (P.places f.1.0)) (ShowsKnown
-        (still memory.new.tid (P.owners memory.new.pages) memory.new.space.now.entries)
-        (P.fixed memory.new.pages, memory.new.compared.ghost_name) (P.state memory.new.pages)
-        (P.pages memory.new.pages)
-        memory.new.compared.now.slots memory.new.compared.now.blocks (f, bytes_of_pages code.now))
-        (with_pc regs.old pc) m
-        (with_pc regs.new result.pc) (budget - result.left) }
+    ensures reaches { (f : Still × (P.Fixed × GName)) (m : P.State)
+        → ⟦<Running<'static, P> as Memory>⟧.shows memory.old (f, bytes_of_pages code.now) m
+        → Reaches (run_answers f.0 (P.places f.1.0))
+        (⟦<Running<'static, P> as Memory>⟧.shows memory.new (f, bytes_of_pages code.now))
+        (with_pc regs.old pc) m (with_pc regs.new result.pc) (budget - result.left) }
     ensures within { result.left ≤ budget }
     ensures line { (result.at ≡ 0) ⊎ IsLineOf memory.new.shown memory.new.compared.now.blocks
         code.now
@@ -222,23 +208,13 @@ pub fn fly_between<P: Pages>(
     budget: u32,
     stops: &[u32],
 ) -> Flown
-    ensures reaches { (f : Still × (P.Fixed × GName)) (m : P.State) → ShowsKnown
-        (still memory.old.tid (P.owners memory.old.pages) memory.old.space.now.entries)
-        (P.fixed memory.old.pages, memory.old.compared.ghost_name) (P.state memory.old.pages)
-        (P.pages memory.old.pages)
-        memory.old.compared.now.slots memory.old.compared.now.blocks (f, bytes_of_pages code.now) m
-        → Reaches (run_answers f.0 (P.places f.1.0)) (ShowsKnown
-        (still memory.new.tid (P.owners memory.new.pages) memory.new.space.now.entries)
-        (P.fixed memory.new.pages, memory.new.compared.ghost_name) (P.state memory.new.pages)
-        (P.pages memory.new.pages)
-        memory.new.compared.now.slots memory.new.compared.now.blocks (f, bytes_of_pages code.now))
-        (with_pc regs.old pc) m
-        (with_pc regs.new result.pc) (budget - result.left) }
-    ensures elsewhere { (f : Still × (P.Fixed × GName)) (m : P.State) → ShowsKnown
-        (still memory.old.tid (P.owners memory.old.pages) memory.old.space.now.entries)
-        (P.fixed memory.old.pages, memory.old.compared.ghost_name) (P.state memory.old.pages)
-        (P.pages memory.old.pages)
-        memory.old.compared.now.slots memory.old.compared.now.blocks (f, bytes_of_pages code.now) m
+    ensures reaches { (f : Still × (P.Fixed × GName)) (m : P.State)
+        → ⟦<Running<'static, P> as Memory>⟧.shows memory.old (f, bytes_of_pages code.now) m
+        → Reaches (run_answers f.0 (P.places f.1.0))
+        (⟦<Running<'static, P> as Memory>⟧.shows memory.new (f, bytes_of_pages code.now))
+        (with_pc regs.old pc) m (with_pc regs.new result.pc) (budget - result.left) }
+    ensures elsewhere { (f : Still × (P.Fixed × GName)) (m : P.State)
+        → ⟦<Running<'static, P> as Memory>⟧.shows memory.old (f, bytes_of_pages code.now) m
         → AreElsewhere (run_answers f.0 (P.places f.1.0)) stops.now (budget - result.left)
         (with_pc regs.old pc) m }
     ensures within { result.left ≤ budget }

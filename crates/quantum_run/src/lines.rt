@@ -17,8 +17,7 @@ ghost use Rattle.code_pages.specs.declared.kind.Kind.TheVariants.{Below, End, Eq
 ghost use Rattle.code_pages.specs.Lines.{AreRuns, Known, bytes_of_pages};
 ghost use Rattle.code_pages.specs.declared.line.Line.{Line as line_type};
 ghost use Rattle.quantum_run.specs.Flying.{DoneOrNot, HasLine, IsLineOf, IsRunWithin};
-ghost use Rattle.quantum_run.specs.Answering.{Still, run_answers, still};
-ghost use Rattle.quantum_run.specs.Showing.{ShowsKnown, answers_of, beside_name};
+ghost use Rattle.quantum_run.specs.Answering.{Still, run_answers};
 ghost use Rattle.quantum_run.specs.ThreadRuns.{ReachesIn};
 
 use crate::extent::{Extent, Part};
@@ -28,7 +27,7 @@ use code_pages::{Kind, Line};
 use dos_world::Regs;
 use rv_exec::numbers::{load_result, load_size, store_size};
 use rv_exec::on_registers::{auipc, first, immediate, lui, put, register, second, shift};
-use rv_exec::{Next, nonzero};
+use rv_exec::{Memory, Next, nonzero};
 use rv_form::{Form, Op};
 use rv_isa::{ImmOp, LoadOp, RegOp, ShiftOp, StoreOp};
 
@@ -64,17 +63,10 @@ fn load_quickly<P: Pages>(
     nonzero: bool,
 ) -> Next
     requires { nonzero ≡ true → form.now.rd ≢ 0 }
-    ensures { (size pc : ℕ) → DoneOrNot (answers_of (beside_name P.places)) (ShowsKnown
-        (still memory.now.tid (P.owners memory.now.pages) memory.now.space.now.entries)
-        (P.fixed memory.now.pages, memory.now.compared.ghost_name) (P.state memory.now.pages)
-        (P.pages memory.now.pages)
-        memory.now.compared.now.slots memory.now.compared.now.blocks)
-        (ShowsKnown
-        (still memory.now.tid (P.owners memory.now.pages) memory.now.space.now.entries)
-        (P.fixed memory.now.pages, memory.now.compared.ghost_name) (P.state memory.now.pages)
-        (P.pages memory.now.pages)
-        memory.now.compared.now.slots memory.now.compared.now.blocks)
-        size pc regs.old regs.new result
+    ensures { (size pc : ℕ)
+        → DoneOrNot ⟦<Running<'static, P> as Memory>⟧.answers
+        (⟦<Running<'static, P> as Memory>⟧.shows memory.now)
+        (⟦<Running<'static, P> as Memory>⟧.shows memory.now) size pc regs.old regs.new result
         (effect (Load op form.now.rd form.now.rs1 form.now.imm) size) }
 {
     let address = address_of(regs, form);
@@ -96,17 +88,10 @@ fn store_quickly<P: Pages>(
     form: &Form,
     op: StoreOp,
 ) -> Next
-    ensures done { (size pc : ℕ) → DoneOrNot (answers_of (beside_name P.places)) (ShowsKnown
-        (still memory.old.tid (P.owners memory.old.pages) memory.old.space.now.entries)
-        (P.fixed memory.old.pages, memory.old.compared.ghost_name) (P.state memory.old.pages)
-        (P.pages memory.old.pages)
-        memory.old.compared.now.slots memory.old.compared.now.blocks)
-        (ShowsKnown
-        (still memory.new.tid (P.owners memory.new.pages) memory.new.space.now.entries)
-        (P.fixed memory.new.pages, memory.new.compared.ghost_name) (P.state memory.new.pages)
-        (P.pages memory.new.pages)
-        memory.new.compared.now.slots memory.new.compared.now.blocks)
-        size pc regs.now regs.now result
+    ensures done { (size pc : ℕ)
+        → DoneOrNot ⟦<Running<'static, P> as Memory>⟧.answers
+        (⟦<Running<'static, P> as Memory>⟧.shows memory.old)
+        (⟦<Running<'static, P> as Memory>⟧.shows memory.new) size pc regs.now regs.now result
         (effect (Store op form.now.rs1 form.now.rs2 form.now.imm) size) }
     ensures same { (memory.new.shown ≡ memory.old.shown)
         × (memory.new.compared ≡ memory.old.compared) }
@@ -230,18 +215,12 @@ fn other<P: Pages, E: Extent>(
     form: &Form,
     pc: u32,
 ) -> Next
-    ensures done { (instr : Instr) (size : ℕ) → instr_of_form form.now ≡ Some (instr, size)
-        → DoneOrNot (answers_of (beside_name P.places)) (ShowsKnown
-        (still memory.old.tid (P.owners memory.old.pages) memory.old.space.now.entries)
-        (P.fixed memory.old.pages, memory.old.compared.ghost_name) (P.state memory.old.pages)
-        (P.pages memory.old.pages)
-        memory.old.compared.now.slots memory.old.compared.now.blocks)
-        (ShowsKnown
-        (still memory.new.tid (P.owners memory.new.pages) memory.new.space.now.entries)
-        (P.fixed memory.new.pages, memory.new.compared.ghost_name) (P.state memory.new.pages)
-        (P.pages memory.new.pages)
-        memory.new.compared.now.slots memory.new.compared.now.blocks)
-        size pc regs.old regs.new result (effect instr size) }
+    ensures done { (instr : Instr) (size : ℕ)
+        → instr_of_form form.now ≡ Some (instr, size)
+        → DoneOrNot ⟦<Running<'static, P> as Memory>⟧.answers
+        (⟦<Running<'static, P> as Memory>⟧.shows memory.old)
+        (⟦<Running<'static, P> as Memory>⟧.shows memory.new) size pc regs.old regs.new result
+        (effect instr size) }
     ensures same { (memory.new.shown ≡ memory.old.shown)
         × (memory.new.compared ≡ memory.old.compared) }
 {
@@ -304,17 +283,10 @@ fn perform_line<P: Pages, E: Extent>(
     line: &Line,
     base: u32,
 ) -> Next
-    ensures done { DoneOrNot (answers_of (beside_name P.places)) (ShowsKnown
-        (still memory.old.tid (P.owners memory.old.pages) memory.old.space.now.entries)
-        (P.fixed memory.old.pages, memory.old.compared.ghost_name) (P.state memory.old.pages)
-        (P.pages memory.old.pages)
-        memory.old.compared.now.slots memory.old.compared.now.blocks)
-        (ShowsKnown
-        (still memory.new.tid (P.owners memory.new.pages) memory.new.space.now.entries)
-        (P.fixed memory.new.pages, memory.new.compared.ghost_name) (P.state memory.new.pages)
-        (P.pages memory.new.pages)
-        memory.new.compared.now.slots memory.new.compared.now.blocks)
-        line.now.size ((base + line.now.offset) % 2 ^ 32) regs.old regs.new result
+    ensures done { DoneOrNot ⟦<Running<'static, P> as Memory>⟧.answers
+        (⟦<Running<'static, P> as Memory>⟧.shows memory.old)
+        (⟦<Running<'static, P> as Memory>⟧.shows memory.new) line.now.size
+        ((base + line.now.offset) % 2 ^ 32) regs.old regs.new result
         (effect_of_form line.now.form) }
     ensures same { (memory.new.shown ≡ memory.old.shown)
         × (memory.new.compared ≡ memory.old.compared) }
@@ -398,16 +370,9 @@ pub fn follow<P: Pages, E: Extent>(
     requires enough { E.whole ≡ true → IsRunWithin lines.now from budget }
     ensures reaches { (known : Known) (address : ℕ) (f : Still × (P.Fixed × GName)) (m : P.State)
         → IsLineOf memory.old.shown memory.old.compared.now.blocks known lines.now base address from
-        → ShowsKnown
-        (still memory.old.tid (P.owners memory.old.pages) memory.old.space.now.entries)
-        (P.fixed memory.old.pages, memory.old.compared.ghost_name) (P.state memory.old.pages)
-        (P.pages memory.old.pages)
-        memory.old.compared.now.slots memory.old.compared.now.blocks (f, bytes_of_pages known) m
-        → ReachesIn base (run_answers f.0 (P.places f.1.0)) (ShowsKnown
-        (still memory.new.tid (P.owners memory.new.pages) memory.new.space.now.entries)
-        (P.fixed memory.new.pages, memory.new.compared.ghost_name) (P.state memory.new.pages)
-        (P.pages memory.new.pages)
-        memory.new.compared.now.slots memory.new.compared.now.blocks (f, bytes_of_pages known))
+        → ⟦<Running<'static, P> as Memory>⟧.shows memory.old (f, bytes_of_pages known) m
+        → ReachesIn base (run_answers f.0 (P.places f.1.0))
+        (⟦<Running<'static, P> as Memory>⟧.shows memory.new (f, bytes_of_pages known))
         (with_pc regs.old address) m
         (with_pc regs.new ((base + result.to) % 2 ^ 32)) (budget - result.left) }
     ensures within { result.left ≤ budget }
@@ -465,16 +430,9 @@ pub fn part_of_run<P: Pages>(
     requires there { HasLine lines.now from }
     ensures reaches { (known : Known) (address : ℕ) (f : Still × (P.Fixed × GName)) (m : P.State)
         → IsLineOf memory.old.shown memory.old.compared.now.blocks known lines.now base address from
-        → ShowsKnown
-        (still memory.old.tid (P.owners memory.old.pages) memory.old.space.now.entries)
-        (P.fixed memory.old.pages, memory.old.compared.ghost_name) (P.state memory.old.pages)
-        (P.pages memory.old.pages)
-        memory.old.compared.now.slots memory.old.compared.now.blocks (f, bytes_of_pages known) m
-        → ReachesIn base (run_answers f.0 (P.places f.1.0)) (ShowsKnown
-        (still memory.new.tid (P.owners memory.new.pages) memory.new.space.now.entries)
-        (P.fixed memory.new.pages, memory.new.compared.ghost_name) (P.state memory.new.pages)
-        (P.pages memory.new.pages)
-        memory.new.compared.now.slots memory.new.compared.now.blocks (f, bytes_of_pages known))
+        → ⟦<Running<'static, P> as Memory>⟧.shows memory.old (f, bytes_of_pages known) m
+        → ReachesIn base (run_answers f.0 (P.places f.1.0))
+        (⟦<Running<'static, P> as Memory>⟧.shows memory.new (f, bytes_of_pages known))
         (with_pc regs.old address) m
         (with_pc regs.new ((base + result.to) % 2 ^ 32)) (budget - result.left) }
     ensures within { result.left ≤ budget }

@@ -18,7 +18,6 @@ ghost use Rattle.flat_machine.specs.Laws.{after_steps};
 ghost use Rattle.quantum_run.specs.ThreadRuns.{store_of};
 ghost use Rattle.quantum_run.specs.Knowing.{AreRight};
 ghost use Rattle.quantum_run.specs.Answering.{Still, run_answers, still};
-ghost use Rattle.quantum_run.specs.Showing.{ShowsKnown};
 
 use crate::buffered::Buffered;
 use crate::flight::{fly, fly_between};
@@ -31,6 +30,7 @@ use crate::through::Through;
 use code_pages::CodePages;
 use dos_world::{Reason, Regs};
 use page_store::{Compared, Frames, Page};
+use rv_exec::Memory;
 use space_map::Space;
 use std::mem;
 use written_words::WrittenWords;
@@ -56,16 +56,10 @@ fn go<P: Pages>(
 ) -> Option<Reason>
     requires floor { floor ≤ budget.old }
     ensures runs { (f : Still × (P.Fixed × GName)) (m : P.State)
-        → ShowsKnown (still memory.old.tid (P.owners memory.old.pages) memory.old.space.now.entries)
-        (P.fixed memory.old.pages, memory.old.compared.ghost_name) (P.state memory.old.pages)
-        (P.pages memory.old.pages) memory.old.compared.now.slots memory.old.compared.now.blocks
-        (f, bytes_of_pages code.old) m
-        → Goes (run_answers f.0 (P.places f.1.0)) (ShowsKnown
-        (still memory.new.tid (P.owners memory.new.pages) memory.new.space.now.entries)
-        (P.fixed memory.new.pages, memory.new.compared.ghost_name) (P.state memory.new.pages)
-        (P.pages memory.new.pages) memory.new.compared.now.slots memory.new.compared.now.blocks
-        (f, bytes_of_pages code.new)) regs.old m regs.new
-        (budget.old - budget.new) result }
+        → ⟦<Running<'static, P> as Memory>⟧.shows memory.old (f, bytes_of_pages code.old) m
+        → Goes (run_answers f.0 (P.places f.1.0))
+        (⟦<Running<'static, P> as Memory>⟧.shows memory.new (f, bytes_of_pages code.new))
+        regs.old m regs.new (budget.old - budget.new) result }
     ensures stop { MatchOption result (budget.new ≡ floor) (λ reason. 0 < budget.new) }
     ensures within { budget.new ≤ budget.old }
 {
@@ -113,24 +107,15 @@ fn go_up_to<P: Pages>(
     stops: &[u32],
 ) -> Option<Reason>
     ensures runs { (f : Still × (P.Fixed × GName)) (m : P.State)
-        → ShowsKnown (still memory.old.tid (P.owners memory.old.pages) memory.old.space.now.entries)
-        (P.fixed memory.old.pages, memory.old.compared.ghost_name) (P.state memory.old.pages)
-        (P.pages memory.old.pages) memory.old.compared.now.slots memory.old.compared.now.blocks
-        (f, bytes_of_pages code.old) m
-        → Goes (run_answers f.0 (P.places f.1.0)) (ShowsKnown
-        (still memory.new.tid (P.owners memory.new.pages) memory.new.space.now.entries)
-        (P.fixed memory.new.pages, memory.new.compared.ghost_name) (P.state memory.new.pages)
-        (P.pages memory.new.pages) memory.new.compared.now.slots memory.new.compared.now.blocks
-        (f, bytes_of_pages code.new)) regs.old m regs.new
-        (budget.old - budget.new) result }
+        → ⟦<Running<'static, P> as Memory>⟧.shows memory.old (f, bytes_of_pages code.old) m
+        → Goes (run_answers f.0 (P.places f.1.0))
+        (⟦<Running<'static, P> as Memory>⟧.shows memory.new (f, bytes_of_pages code.new))
+        regs.old m regs.new (budget.old - budget.new) result }
     ensures stop { MatchOption result
         ((budget.new ≡ 0) ⊎ (is_stop_at stops.now regs.new.pc ≡ true)) (λ reason. 0 < budget.new) }
     ensures within { budget.new ≤ budget.old }
     ensures elsewhere { (f : Still × (P.Fixed × GName)) (m : P.State)
-        → ShowsKnown (still memory.old.tid (P.owners memory.old.pages) memory.old.space.now.entries)
-        (P.fixed memory.old.pages, memory.old.compared.ghost_name) (P.state memory.old.pages)
-        (P.pages memory.old.pages) memory.old.compared.now.slots memory.old.compared.now.blocks
-        (f, bytes_of_pages code.old) m
+        → ⟦<Running<'static, P> as Memory>⟧.shows memory.old (f, bytes_of_pages code.old) m
         → AreElsewhere (run_answers f.0 (P.places f.1.0)) stops.now (budget.old - budget.new)
         regs.old m }
 {

@@ -11,7 +11,6 @@ ghost use Rattle.quantum_run.specs.Finding.{page_start};
 ghost use Rattle.quantum_run.specs.Flying.{IsLineOf, went_on};
 ghost use Rattle.quantum_run.specs.Knowing.{AreRight, IsLineFor};
 ghost use Rattle.quantum_run.specs.Answering.{Still, run_answers, still};
-ghost use Rattle.quantum_run.specs.Showing.{ShowsKnown};
 
 use crate::lines::line_in;
 use crate::pages::Pages;
@@ -62,16 +61,9 @@ pub fn learns<P: Pages>(
     at: usize,
     is_wanted: bool,
 ) -> bool
-    ensures shows { (f : Still × (P.Fixed × GName)) (m : P.State) → ShowsKnown
-        (still memory.old.tid (P.owners memory.old.pages) memory.old.space.now.entries)
-        (P.fixed memory.old.pages, memory.old.compared.ghost_name) (P.state memory.old.pages)
-        (P.pages memory.old.pages)
-        memory.old.compared.now.slots memory.old.compared.now.blocks (f, bytes_of_pages code.old) m
-        → ShowsKnown
-        (still memory.new.tid (P.owners memory.new.pages) memory.new.space.now.entries)
-        (P.fixed memory.new.pages, memory.new.compared.ghost_name) (P.state memory.new.pages)
-        (P.pages memory.new.pages) memory.new.compared.now.slots memory.new.compared.now.blocks
-        (f, bytes_of_pages code.new) m }
+    ensures shows { (f : Still × (P.Fixed × GName)) (m : P.State)
+        → ⟦<Running<'static, P> as Memory>⟧.shows memory.old (f, bytes_of_pages code.old) m
+        → ⟦<Running<'static, P> as Memory>⟧.shows memory.new (f, bytes_of_pages code.new) m }
     ensures wanted { result ≡ true → is_wanted ≡ true }
     ensures known { 0 < at → (memory.new ≡ memory.old) × (code.new ≡ code.old) }
 {
@@ -130,17 +122,10 @@ pub fn slowly<P: Pages>(
     requires { (at ≡ 0) ⊎ IsLineOf memory.old.shown memory.old.compared.now.blocks code.old
         code.old.lines
         (page_start pc) pc at }
-    ensures { (f : Still × (P.Fixed × GName)) (m : P.State) → ShowsKnown
-        (still memory.old.tid (P.owners memory.old.pages) memory.old.space.now.entries)
-        (P.fixed memory.old.pages, memory.old.compared.ghost_name) (P.state memory.old.pages)
-        (P.pages memory.old.pages)
-        memory.old.compared.now.slots memory.old.compared.now.blocks (f, bytes_of_pages code.old) m
-        → Follows (ShowsKnown
-        (still memory.new.tid (P.owners memory.new.pages) memory.new.space.now.entries)
-        (P.fixed memory.new.pages, memory.new.compared.ghost_name) (P.state memory.new.pages)
-        (P.pages memory.new.pages)
-        memory.new.compared.now.slots memory.new.compared.now.blocks (f, bytes_of_pages code.new)) m
-        (with_pc regs.old pc)
+    ensures { (f : Still × (P.Fixed × GName)) (m : P.State)
+        → ⟦<Running<'static, P> as Memory>⟧.shows memory.old (f, bytes_of_pages code.old) m
+        → Follows (⟦<Running<'static, P> as Memory>⟧.shows memory.new (f, bytes_of_pages code.new))
+        m (with_pc regs.old pc)
         (with_pc regs.new (unwrap_or result pc)) (went_on result why.new)
         (one_in (run_answers f.0 (P.places f.1.0)) (with_pc regs.old pc) m) }
 {

@@ -403,12 +403,8 @@ impl<'a, P: Pages> Running<'a, P> {
     pub fn quick_load(&self, address: u32, size: Size) -> Option<u32>
         ensures number { IfSome result (λ number.
             (fixed : (Still × (P.Fixed × GName)) × List (Option (List ℕ))) (m : P.State)
-            → ShowsKnown
-            (still self.now.tid (P.owners self.now.pages) self.now.space.now.entries)
-            (P.fixed self.now.pages, self.now.compared.ghost_name) (P.state self.now.pages)
-            (P.pages self.now.pages)
-            self.now.compared.now.slots self.now.compared.now.blocks fixed m
-            → (answers_of (beside_name P.places) fixed).load m address size ≡ Ok number) }
+            → ⟦<Running<'static, P> as Memory>⟧.shows self.now fixed m
+            → (⟦<Running<'static, P> as Memory>⟧.answers fixed).load m address size ≡ Ok number) }
     {
         let slot = self.loaded[slot_place(address)];
         if slot.start != aligned_start(address, size) {
@@ -423,16 +419,10 @@ impl<'a, P: Pages> Running<'a, P> {
     pub fn quick_store(&mut self, address: u32, size: Size, value: u32) -> bool
         ensures stored { (fixed : (Still × (P.Fixed × GName)) × List (Option (List ℕ)))
             (m : P.State)
-            → ShowsKnown (still self.old.tid (P.owners self.old.pages) self.old.space.now.entries)
-            (P.fixed self.old.pages, self.old.compared.ghost_name) (P.state self.old.pages)
-            (P.pages self.old.pages)
-            self.old.compared.now.slots self.old.compared.now.blocks fixed m
-            → StoresOrNot result ((answers_of (beside_name P.places) fixed).store m address size
-            value) m
-            (ShowsKnown (still self.new.tid (P.owners self.new.pages) self.new.space.now.entries)
-            (P.fixed self.new.pages, self.new.compared.ghost_name) (P.state self.new.pages)
-            (P.pages self.new.pages)
-            self.new.compared.now.slots self.new.compared.now.blocks fixed) }
+            → ⟦<Running<'static, P> as Memory>⟧.shows self.old fixed m
+            → StoresOrNot result
+            ((⟦<Running<'static, P> as Memory>⟧.answers fixed).store m address size value) m
+            (⟦<Running<'static, P> as Memory>⟧.shows self.new fixed) }
         ensures same { (self.new.shown ≡ self.old.shown) × (self.new.compared ≡ self.old.compared) }
     {
         let slot = self.stored[slot_place(address)];
