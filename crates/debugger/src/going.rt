@@ -12,8 +12,8 @@ ghost use Rattle.debugger.specs.Standing.{IsAsked, IsSame, StillKnows, here};
 use crate::forwards::Put;
 use crate::halts::Halt;
 use crate::session::Session;
-use crate::stretches::at_most;
 use debug_session::Cause;
+use recorded_walk::at_most;
 use std::alloc::AllocError;
 
 /// 2, of a moment that was gone to.

@@ -22,15 +22,8 @@ use crate::session::Session;
 use debug_session::{Breakpoint, Cause, WatchKind, Watchpoint};
 use gdb_packets::resumptions::Resumption;
 use group_walk::MoveKind;
+use recorded_walk::at_most;
 use std::alloc::{AllocError, Global};
-
-/// So many moves, or as many as are made at once.
-pub(crate) fn at_most(moves: u64) -> u32
-    ensures most { result ≤ moves }
-    ensures some { 0 < moves → 0 < result }
-{
-    moves.min(u64::from(u32::MAX)) as u32
-}
 
 // whether it is that of a watchpoint that is hit by changes alone
 fn is_for_changes(kind: WatchKind) -> bool

@@ -9,3 +9,4 @@ mod puts;
 mod track;
 
 pub use playback::Playback;
+pub use track::at_most;

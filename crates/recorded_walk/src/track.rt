@@ -37,8 +37,8 @@ pub(crate) struct Track {
 // So many moves and as many instructions as a call makes at once are still counted.
 const MOST_MOVES: u64 = 18_446_744_069_414_584_320;
 
-// so many moves, or as many as a call makes at once
-fn at_most(moves: u64) -> u32
+/// So many moves, or as many as a call makes at once.
+pub fn at_most(moves: u64) -> u32
     ensures most { result ≤ moves }
     ensures some { 0 < moves → 0 < result }
 {
