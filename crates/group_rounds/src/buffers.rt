@@ -19,7 +19,7 @@ ghost use Rattle.group_rounds.specs.Phases.{AreLive, HavePutParts};
 use crate::in_place::is_callers;
 use crate::packs::{fill_each, keep, run_out};
 use kernel_calls::{State, commit};
-use quantum_run::{Pack, Shared, run_alone};
+use quantum_run::{Pack, Shared, run_pack_through};
 use worker_pool::Workers;
 
 // a thread's part, as its pack has left it, is put into the state
@@ -68,7 +68,7 @@ fn run_through(state: &mut State, pack: &mut Pack) -> u32
     ensures paid { pack.old.budget ≡ result + pack.new.budget }
 {
     let budget = pack.budget();
-    run_alone(pack, &mut state.frames, &state.table);
+    run_pack_through(pack, &mut state.frames, &state.table);
     // that each page has an owner is known of the frames themselves
     let _count = state.frames.count();
     state.table.set_run(pack.tid(), *pack.regs(), pack.budget());

@@ -1,7 +1,7 @@
 -- What a thread's memory answers in the buffered scheme, by the frame that is found; and its part,
 -- as far as a run of it went.
 use Rattle.std.proofs.Common.{ℕ, zero, suc, ◌+◌, ◌*◌, ◌-◌, ◌/◌, ◌%◌, ◌<◌, ◌≤◌, ◌≡◌, refl, sym, ap}
-use Rattle.std.proofs.Common.{◌∙◌, cond, not, Bool, true, false, List, map, Option, Some, None}
+use Rattle.std.proofs.Common.{◌∙◌, cond, not, Bool, true, false, List, Option, Some, None}
 use Rattle.std.proofs.Common.{Result, Ok, Err, arith}
 use Rattle.std.specs.Prelude.{◌==◌, MatchOption, slice_index_or}
 use Rattle.dos_world.specs.World.{World, Registers, look, entry_at}

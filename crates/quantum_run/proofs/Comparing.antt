@@ -3,26 +3,26 @@ use Rattle.std.proofs.Common.{ℕ, zero, suc, ◌+◌, ◌*◌, ◌/◌, ◌%◌
 use Rattle.std.proofs.Common.{inl, inr}
 use Rattle.std.proofs.Common.{refl, sym, ap, ◌∙◌, subst, arith, List, [], ◌∷◌, length, take}
 use Rattle.std.proofs.Common.{drop, set}
-use Rattle.std.proofs.Common.{Bool, true, false, Option, Some, None, slice_get, length-set}
+use Rattle.std.proofs.Common.{Bool, true, false, Option, Some, None, slice_get}
 use Rattle.std.proofs.Common.{MutBor}
 use Rattle.std.proofs.Common.{map, eqb}
-use Rattle.std.specs.Prelude.{◌-◌, if◌then◌else◌, slice_index, slice_index_or, unwrap_or}
+use Rattle.std.specs.Prelude.{if◌then◌else◌, slice_index, slice_index_or, unwrap_or}
 use Rattle.std.specs.Option.{option_map}
 use Rattle.std.proofs.lemmas.Bool.{cases_lt}
 use Rattle.std.proofs.lemmas.Bool.Decides.{eqb_tells}
-use Rattle.std.proofs.lemmas.List.{get_or-set_other, get_or-set_same, get_or_past, get_or-take}
-use Rattle.std.proofs.lemmas.List.{get_or_default}
-use Rattle.std.proofs.lemmas.List.{get_or-drop, length-take, length-drop, length-map}
-use Rattle.dos_world.specs.Bytes.{written, zero_page}
+use Rattle.std.proofs.lemmas.List.{get_or-set_other, get_or_default, get_or_past, length-map}
+use Rattle.dos_world.specs.Bytes.{zero_page}
 use Rattle.page_store.specs.Store.{whole}
-use Rattle.page_store.proofs.Pages.{length-whole, length-zero_page}
-use Rattle.code_pages.specs.Lines.{AreKnownPages, CodePage, Known, bytes_of_pages, page_bytes_at}
-use Rattle.code_pages.specs.Lines.{with_block}
+use Rattle.page_store.proofs.Pages.{length-whole, length-written, length-zero_page}
+use Rattle.code_pages.specs.Lines.{AreKnownPages, AreSameIn, CodePage, Known, bytes_of_pages}
+use Rattle.code_pages.specs.Lines.{page_bytes_at, with_block}
+use Rattle.code_pages.proofs.Bytes.{block-beside, block-byte, block-is}
 use Rattle.page_store.specs.declared.compared.Slot.{Slot}
 use Rattle.page_store.specs.declared.compared.Compared.{Compared}
 use Rattle.quantum_run.specs.Finding.{no_start, page_start}
 use Rattle.quantum_run.specs.Knowing.{AreAmong, AreFewer, AreHidden, AreRight, AreSameAround}
-use Rattle.quantum_run.specs.Knowing.{IsCompared, IsNoCode, IsRightAt, IsUncompared, KeepsRight}
+use Rattle.quantum_run.specs.Knowing.{IsChecked, IsCompared, IsNoCode, IsRightAt, IsUncompared}
+use Rattle.quantum_run.specs.Knowing.{KeepsRight}
 use Rattle.quantum_run.specs.Knowing.{block_place, code_place, empty_slot, slot_of}
 use Rattle.quantum_run.specs.Pages.{Writes}
 
@@ -182,64 +182,6 @@ keeps-written shown compared pages new frame offset bytes writes free known are 
 
 -- ---- a block that is compared
 
--- a byte beside those that are written
-byte-beside : (xs : List ℕ) (p : ℕ) (new : List ℕ) (i : ℕ) → (i < p) ⊎ (p + length new ≤ i)
-    → slice_index (written xs p new) i ≡ slice_index xs i
-byte-beside xs p [] i out = refl
-byte-beside xs p (b ∷ new) i (inl h) =
-    byte-beside (set xs p b) (suc p) new i (inl (omega (arith, h)))
-    ∙ get_or-set_other xs p i b 0 (λ e. omega (arith, h, e))
-byte-beside xs p (b ∷ new) i (inr h) =
-    byte-beside (set xs p b) (suc p) new i (inr (omega (arith, h)))
-    ∙ get_or-set_other xs p i b 0 (λ e. omega (arith, h, e))
-
--- and one of them
-byte-written : (xs : List ℕ) (p : ℕ) (new : List ℕ) (i j : ℕ) → i ≡ p + j → j < length new
-    → i < length xs → slice_index (written xs p new) i ≡ slice_index new j
-byte-written xs p [] i j is h within = absurd (omega (arith, h))
-byte-written xs p (b ∷ new) i zero is h within =
-    byte-beside (set xs p b) (suc p) new i (inl (omega (arith, is)))
-    ∙ ap (λ (k : ℕ). slice_index (set xs p b) k) first
-    ∙ get_or-set_same xs p b 0 (omega (arith, first, within))
-  where
-    first : i ≡ p
-    first = omega (arith, is)
-byte-written xs p (b ∷ new) i (suc j) is h within =
-    byte-written (set xs p b) (suc p) new i j (omega (arith, is)) (omega (arith, h))
-    (omega (arith, within, length-set xs p b))
-
--- a byte of a page with a block, where it lies in the block or right behind it, and elsewhere
-block-byte : (old : List ℕ) (block : ℕ) (bytes : List ℕ) (i : ℕ) → length old ≡ 4096
-    → length bytes ≡ 4096 → 256 * block ≤ i → i < 256 * block + 258 → i < 4096
-    → slice_index (with_block old block bytes) i ≡ slice_index bytes i
-block-byte old block bytes i size full low high within =
-    let cut : List ℕ = take 258 (drop (256 * block) bytes) in
-    let j : ℕ = i - 256 * block in
-    let is : i ≡ 256 * block + j = omega (arith, low) in
-    byte-written old (256 * block) cut i j is
-    (omega (
-      arith,
-      is,
-      high,
-      within,
-      full,
-      length-take 258 (drop (256 * block) bytes),
-      length-drop (256 * block) bytes,
-    ))
-    (omega (arith, size, within))
-    ∙ get_or-take 258 (drop (256 * block) bytes) j 0 (omega (arith, is, high))
-    ∙ get_or-drop (256 * block) bytes j 0
-    ∙ ap (λ (k : ℕ). slice_index bytes k) (sym is)
-
-block-beside : (old : List ℕ) (block : ℕ) (bytes : List ℕ) (i : ℕ)
-    → (i < 256 * block) ⊎ (256 * block + 258 ≤ i)
-    → slice_index (with_block old block bytes) i ≡ slice_index old i
-block-beside old block bytes i (inl h) =
-    byte-beside old (256 * block) (take 258 (drop (256 * block) bytes)) i (inl h)
-block-beside old block bytes i (inr h) =
-    byte-beside old (256 * block) (take 258 (drop (256 * block) bytes)) i
-    (inr (omega (arith, h, length-take 258 (drop (256 * block) bytes))))
-
 -- a page that is known has 4096 bytes, and so have the zeros where none is
 bytes-there : (known : Known) (place : ℕ) → AreKnownPages known
     → length (page_bytes_at known place) ≡ 4096
@@ -396,32 +338,87 @@ module _ (shown : List Slot) (compared : List Bool) (pages : List (Option (List 
               ∙ is.is;
         })
 
--- what is right after a block has been checked, which is `done`
-pub right-compared : (shown : List Slot) (compared : List Bool) (pages new : List (Option (List ℕ)))
-    (known : Known) (address block place at : ℕ) (page bytes : List ℕ) (done : Bool) → done ≡ true
-    → address < 2 ^ 32 → (slot_of shown address).start ≡ page_start address
-    → slice_get pages (slot_of shown address).frame ≡ Some (Some page)
+-- what is right after a block has been checked
+pub right-checked : (shown : List Slot) (compared : List Bool) (pages : List (Option (List ℕ)))
+    (known new : Known) (address block place at : ℕ) → address < 2 ^ 32
+    → (slot_of shown address).start ≡ page_start address
     → block ≡ address % 4096 / 256 → place ≡ code_place address → at ≡ block_place address
-    → bytes ≡ whole page → (done ≡ true → place < length known.pages) → AreKnownPages known
-    → new ≡ (if done then set (bytes_of_pages known) place
-    (Some (with_block (page_bytes_at known place) block bytes)) else bytes_of_pages known)
+    → AreKnownPages known → IsChecked pages (slot_of shown address).frame known place block new
     → AreRight shown compared pages (bytes_of_pages known)
-    → AreRight shown (set compared at true) pages new
-right-compared shown compared pages new known address block place at page bytes done did fits found
-    there block_is place_is at_is bytes_is inside pages_known is are =
-    let within : code_place address < length known.pages =
-    subst (λ (k : ℕ). k < length known.pages) place_is (inside did) in
-    let final : new ≡ set (bytes_of_pages known) (code_place address)
-    (Some (with_block (page_bytes_at known (code_place address)) block (whole page))) =
-    is
-    ∙ ap (λ (b : Bool). if b then set (bytes_of_pages known) place
-    (Some (with_block (page_bytes_at known place) block bytes)) else bytes_of_pages known) did
+    → AreRight shown (set compared at true) pages (bytes_of_pages new)
+right-checked shown compared pages known new address block place at fits found block_is place_is
+    at_is pages_known is are =
+    let inside : code_place address < length known.pages =
+    subst (λ (k : ℕ). k < length known.pages) place_is is.inside in
+    let final : bytes_of_pages new ≡ set (bytes_of_pages known) (code_place address)
+    (Some (with_block (page_bytes_at known (code_place address)) block (whole is.page))) =
+    is.known
     ∙ ap (λ (k : ℕ). set (bytes_of_pages known) k
-    (Some (with_block (page_bytes_at known k) block bytes))) place_is
-    ∙ ap (λ (xs : List ℕ). set (bytes_of_pages known) (code_place address)
-    (Some (with_block (page_bytes_at known (code_place address)) block xs))) bytes_is in
-    subst (λ (k : ℕ). AreRight shown (set compared k true) pages new) (sym at_is)
+    (Some (with_block (page_bytes_at known k) block (whole is.page)))) place_is in
+    subst (λ (k : ℕ). AreRight shown (set compared k true) pages (bytes_of_pages new)) (sym at_is)
     (subst (λ (x : List (Option (List ℕ))).
     AreRight shown (set compared (block_place address) true) pages x) (sym final)
-    (right-more shown compared pages known address block page fits found there block_is within
-    pages_known are))
+    (right-more shown compared pages known address block is.page fits found is.there block_is
+    inside pages_known are))
+
+-- ---- a block that is checked
+
+-- by bytes that are the same there
+pub same-block : (old bytes other : List ℕ) (block : ℕ) → length old ≡ 4096
+    → length bytes ≡ 4096 → length other ≡ 4096
+    → AreSameIn (256 * block) (256 * block + 258) bytes other
+    → with_block old block bytes ≡ with_block old block other
+same-block old bytes other block size full count same =
+    block-is old now other block (256 * block + 258) size long count (omega arith) (inl refl)
+    (record {
+      inside = λ i low high. by_place i low high (cases_lt i 4096);
+      outside = λ i out. block-beside old block bytes i out;
+    })
+  where
+    now : List ℕ
+    now = with_block old block bytes
+
+    long : length now ≡ 4096
+    long = length-written old (256 * block) (take 258 (drop (256 * block) bytes)) ∙ size
+
+    by_place : (i : ℕ) → 256 * block ≤ i → i < 256 * block + 258 → (i < 4096) ⊎ (4096 ≤ i)
+        → slice_index now i ≡ slice_index other i
+    by_place i low high (inl h) = block-byte old block bytes i size full low high h
+        ∙ same i low high
+    by_place i low high (inr h) = get_or_past now i 0 (omega (arith, long, h))
+        ∙ sym (get_or_past other i 0 (omega (arith, count, h)))
+
+-- what is known of a frame's page after a check, which is `done`, of these bytes
+pub checked-by : (pages : List (Option (List ℕ))) (frame : ℕ) (old new : Known) (place block : ℕ)
+    (page bytes : List ℕ) (done : Bool) → done ≡ true
+    → slice_get pages frame ≡ Some (Some page) → length bytes ≡ 4096
+    → AreSameIn (256 * block) (256 * block + 258) bytes (whole page)
+    → (done ≡ true → place < length old.pages) → AreKnownPages old
+    → bytes_of_pages new ≡ (if done then set (bytes_of_pages old) place
+    (Some (with_block (page_bytes_at old place) block bytes)) else bytes_of_pages old)
+    → IsChecked pages frame old place block new
+checked-by pages frame old new place block page bytes done did there count same inside known is =
+    let before = page_bytes_at old place in
+    record {
+      page = page;
+      there = there;
+      inside = inside did;
+      known = is
+          ∙ ap (λ (b : Bool). if b then set (bytes_of_pages old) place
+          (Some (with_block before block bytes)) else bytes_of_pages old) did
+          ∙ ap (λ (xs : List ℕ). set (bytes_of_pages old) place (Some xs))
+          (same-block before bytes (whole page) block (bytes-there old place known) count
+          (length-whole page) same);
+    }
+
+-- and where they are the page's
+pub checked-page : (pages : List (Option (List ℕ))) (frame : ℕ) (old new : Known)
+    (place block : ℕ) (page bytes : List ℕ) (done : Bool) → done ≡ true
+    → slice_get pages frame ≡ Some (Some page) → length bytes ≡ 4096 → bytes ≡ whole page
+    → (done ≡ true → place < length old.pages) → AreKnownPages old
+    → bytes_of_pages new ≡ (if done then set (bytes_of_pages old) place
+    (Some (with_block (page_bytes_at old place) block bytes)) else bytes_of_pages old)
+    → IsChecked pages frame old place block new
+checked-page pages frame old new place block page bytes done did there count are inside known is =
+    checked-by pages frame old new place block page bytes done did there count
+    (λ i low high. ap (λ (xs : List ℕ). slice_index xs i) are) inside known is

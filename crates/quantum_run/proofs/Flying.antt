@@ -66,14 +66,6 @@ module _ {Fixed M : Type 0} (answers : Fixed → MemoryAnswers M) (shows : Fixed
   settled Not why e does = (stays why (e (with_pc r pc)) does, λ f m shown. shown)
 
 -- by what a form stands for
-pub settles-kind : (size pc : ℕ) (next : Next) (why : Reason) (r after : Registers) (form : Form)
-    (o : Option (Instr × ℕ)) → instr_of_form form ≡ o
-    → SettlesBy size pc next why r after (λ x. effect_by o x)
-    → SettlesBy size pc next why r after (effect_of_form form)
-settles-kind size pc next why r after form o is does =
-    subst (λ (p : Option (Instr × ℕ)). SettlesBy size pc next why r after (λ x. effect_by p x))
-    (sym is) does
-
 pub of-kind : {Fixed M : Type 0} (answers : Fixed → MemoryAnswers M)
     (old new : Fixed → M → Type 0) (size pc : ℕ) (r after : Registers) (next : Next) (form : Form)
     (instr : Instr) (n : ℕ)

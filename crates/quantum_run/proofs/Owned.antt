@@ -1,10 +1,10 @@
 -- The frames as a thread of the buffered scheme sees them: each frame in use is its own.
-use Rattle.std.proofs.Common.{ℕ, zero, suc, ◌<◌, ◌≡◌, refl, sym, ap, ◌∙◌, cond, Bool, true, false}
+use Rattle.std.proofs.Common.{ℕ, zero, suc, ◌<◌, ◌≡◌, refl, ap, ◌∙◌, cond, Bool, true, false}
 use Rattle.std.proofs.Common.{List, [], ◌∷◌, length, map, Option, Some, Ok, arith}
 use Rattle.std.specs.Prelude.{slice_get, slice_index_or}
 use Rattle.std.specs.Str.{bytes_eq}
 use Rattle.std.proofs.lemmas.List.{length-map}
-use Rattle.dos_world.specs.World.{is_free, look, page_of}
+use Rattle.dos_world.specs.World.{is_free, page_of}
 use Rattle.dos_world.specs.declared.Access.{Access}
 use Rattle.dos_world.specs.declared.Entry.{Entry}
 use Rattle.dos_world.specs.declared.Owner.{Owner}
@@ -15,8 +15,8 @@ use Rattle.page_store.proofs.Joined.{home-at}
 use Rattle.flat_machine.specs.Buffered.{owner_for}
 use Rattle.written_words.specs.declared.Written.{Written}
 use Rattle.written_words.specs.Words.{words_put}
-use Rattle.quantum_run.specs.Buffering.{page_with, pages_read}
-use Rattle.quantum_run.specs.Finding.{IsWriting, frame_for}
+use Rattle.quantum_run.specs.Buffering.{pages_read}
+use Rattle.quantum_run.specs.Finding.{frame_for}
 use Rattle.quantum_run.specs.Pages.{AreOwn, AreReached, AreWithin, is_here}
 use Rattle.quantum_run.specs.ThreadRuns.{AreMapped}
 use Rattle.quantum_run.proofs.Packing.{here-is}

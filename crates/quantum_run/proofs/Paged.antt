@@ -2,26 +2,34 @@
 -- four bytes of it.
 use Rattle.std.proofs.Common.{ℕ, zero, suc, ◌+◌, ◌-◌, ◌*◌, ◌/◌, ◌%◌, ◌<◌, ◌≤◌, ◌≡◌, ◌⊎◌, inl, inr}
 use Rattle.std.proofs.Common.{refl, sym, ap, ◌∙◌, subst, cond, Bool, true, false, List, [], ◌∷◌}
+use Rattle.std.proofs.Common.{◌++◌}
 use Rattle.std.proofs.Common.{length, length-set, set, take, drop, Option, Some, None, arith}
-use Rattle.std.specs.Prelude.{slice_get, slice_index, slice_set, min}
+use Rattle.std.specs.Prelude.{All, IsSome, is_some, slice_get, slice_index, slice_set}
 use Rattle.std.specs.Str.{bytes_eq}
-use Rattle.std.proofs.lemmas.List.{drop-drop, length-take, length-drop, take-append-drop}
+use Rattle.std.proofs.lemmas.Bool.{cases_lt}
+use Rattle.std.proofs.lemmas.List.{drop-drop, length-take, length-drop}
+use Rattle.std.proofs.lemmas.List.{get_or-drop, get_or-set_other, get_or-set_same, get_or-take}
+use Rattle.std.proofs.lemmas.List.{get_or_past}
 use Rattle.std.proofs.lemmas.Slice.Eq.{bytes_eq-Decides}
+use borrow.Rule.Slice.PartMut.{put_mid}
 use Rattle.dos_world.specs.Bytes.{written}
 use Rattle.dos_world.specs.Reach.{number_of, width}
 use Rattle.dos_world.specs.World.{page_of}
 use Rattle.dos_world.specs.declared.Size.{Size}
+use Rattle.code_pages.specs.Lines.{AreSameIn}
 use Rattle.page_store.specs.Store.{joined, number_at, shown, whole}
-use Rattle.page_store.proofs.Joined.{joined-stretch, length-joined, page_of-joined}
-use Rattle.page_store.proofs.Pages.{length-written, whole-same}
+use Rattle.page_store.proofs.Joined.{home-at, joined-stretch, page_of-joined}
+use Rattle.page_store.proofs.Pages.{length-written, whole-same, written-splice}
 use Rattle.written_words.specs.declared.Written.{Written}
 use Rattle.written_words.specs.Words.{words_put}
-use Rattle.written_words.proofs.Putting.{length-put}
 use Rattle.written_words.proofs.Storing.{fits-word}
 use Rattle.quantum_run.specs.Buffering.{page_with, pages_read, pages_with}
 use Rattle.quantum_run.specs.Reading.{count-read, length-taken, read-joined}
 use Rattle.quantum_run.specs.Pages.{Writes, is_here}
 use Rattle.quantum_run.proofs.Overlay.{here-within}
+
+Some-same : {A : Type 0} {x y : A} → ◌≡◌ {A = Option A} (Some x) (Some y) → x ≡ y
+Some-same h = cc
 
 -- ---- what is written, in a stretch and beside it
 
@@ -77,6 +85,42 @@ drop-written-below n o bytes [] h = refl
 drop-written-below n o bytes (b ∷ new) h =
     drop-written-below n (suc o) (set bytes o b) new (omega (arith, h))
     ∙ drop-set-below n o b bytes (omega (arith, h))
+
+-- a copy into a stretch writes it
+pub put-is-written : (xs mid new : List ℕ) (o k : ℕ) → mid ≡ new → k ≡ length new
+    → o + length new ≤ length xs → put_mid o k xs mid ≡ written xs o new
+put-is-written xs mid new o k is count fits =
+    let cut : o + k ≡ o + length new = omega (arith, count) in
+    ap (λ ys. put_mid o k xs ys) is
+    ∙ ap (λ ys. take o xs ++ (new ++ ys)) (drop-drop k o xs)
+    ∙ ap (λ n. take o xs ++ (new ++ drop n xs)) cut
+    ∙ sym (written-splice xs o new fits)
+
+-- a byte beside those that are written
+byte-beside : (xs : List ℕ) (p : ℕ) (new : List ℕ) (i : ℕ) → (i < p) ⊎ (p + length new ≤ i)
+    → slice_index (written xs p new) i ≡ slice_index xs i
+byte-beside xs p [] i out = refl
+byte-beside xs p (b ∷ new) i (inl h) =
+    byte-beside (set xs p b) (suc p) new i (inl (omega (arith, h)))
+    ∙ get_or-set_other xs p i b 0 (λ e. omega (arith, h, e))
+byte-beside xs p (b ∷ new) i (inr h) =
+    byte-beside (set xs p b) (suc p) new i (inr (omega (arith, h)))
+    ∙ get_or-set_other xs p i b 0 (λ e. omega (arith, h, e))
+
+-- and one of them
+byte-written : (xs : List ℕ) (p : ℕ) (new : List ℕ) (i j : ℕ) → i ≡ p + j → j < length new
+    → i < length xs → slice_index (written xs p new) i ≡ slice_index new j
+byte-written xs p [] i j is h within = absurd (omega (arith, h))
+byte-written xs p (b ∷ new) i zero is h within =
+    byte-beside (set xs p b) (suc p) new i (inl (omega (arith, is)))
+    ∙ ap (λ (k : ℕ). slice_index (set xs p b) k) first
+    ∙ get_or-set_same xs p b 0 (omega (arith, first, within))
+  where
+    first : i ≡ p
+    first = omega (arith, is)
+byte-written xs p (b ∷ new) i (suc j) is h within =
+    byte-written (set xs p b) (suc p) new i j (omega (arith, is)) (omega (arith, h))
+    (omega (arith, within, length-set xs p b))
 
 -- ---- one page
 
@@ -203,6 +247,84 @@ read-same pages words f page home same =
     with-at pages (words_put (joined pages) words) f (Some page) home
     ∙ ap Some (same-with (Some page) (page_of (words_put (joined pages) words) f)
     (same ∙ page_of-joined pages f (Some page) home))
+
+-- the bytes of a frame's page that is read
+pub read-page : (pages : List (Option (List ℕ))) (words : List Written) (f : ℕ) (page : List ℕ)
+    → slice_get (pages_read pages words) f ≡ Some (Some page) → All IsSome pages
+    → whole page ≡ page_of (words_put (joined pages) words) f
+read-page pages words f page there all =
+    let bytes = words_put (joined pages) words in
+    let inside = read-within pages words f (ap (λ (p : Option (Option (List ℕ))).
+    elim p [ None ↦ false | Some q ↦ is_some q ]) there) in
+    let home = home-at pages f all inside in
+    let size : length (page_of bytes f) ≡ 4096 =
+    length-taken 4096 (drop (4096 * f) bytes)
+    (omega (arith, inside, count-read pages words, length-drop (4096 * f) bytes)) in
+    let own = page-with home.0 (page_of bytes f) size in
+    let same : own.own ≡ page = Some-same (Some-same (ap Some (sym own.is)
+    ∙ sym (with-at pages bytes f (Some home.0) home.1) ∙ there)) in
+    ap whole (sym same) ∙ own.shows
+
+-- A page has the bytes of a frame as they are read, from a word on up to another.
+pub record IsReadUpTo (page flat : List ℕ) (f first number : ℕ) : Type 0 where
+  pub count : length page ≡ 4096
+  pub bytes : (i : ℕ) → 4 * first ≤ i → i < 4 * number
+      → slice_index page i ≡ slice_index flat (4096 * f + i)
+
+-- one word more
+pub read-more : (page new bytes word : List ℕ) (f first number : ℕ)
+    → number < 1024 → 4096 * f + 4 * number + 4 ≤ length bytes
+    → word ≡ take 4 (drop (4096 * f + 4 * number) bytes) → new ≡ written page (4 * number) word
+    → IsReadUpTo page bytes f first number → IsReadUpTo new bytes f first (number + 1)
+read-more page new bytes word f first number small room is put so_far = record {
+  count = ap length put ∙ length-written page (4 * number) word ∙ so_far.count;
+  bytes = λ i low high. ap (λ (xs : List ℕ). slice_index xs i) put
+      ∙ by_place i low high (cases_lt i (4 * number));
+}
+  where
+    start : ℕ
+    start = 4096 * f + 4 * number
+
+    count : length word ≡ 4
+    count = ap length is ∙ length-taken 4 (drop start bytes)
+        (omega (arith, room, length-drop start bytes))
+
+    by_place : (i : ℕ) → 4 * first ≤ i → i < 4 * (number + 1)
+        → (i < 4 * number) ⊎ (4 * number ≤ i)
+        → slice_index (written page (4 * number) word) i ≡ slice_index bytes (4096 * f + i)
+    by_place i low high (inl h) =
+        byte-beside page (4 * number) word i (inl h) ∙ so_far.bytes i low h
+    by_place i low high (inr h) =
+        let j : ℕ = i - 4 * number in
+        let at : i ≡ 4 * number + j = omega (arith, h) in
+        let place : start + j ≡ 4096 * f + i = omega (arith, at) in
+        byte-written page (4 * number) word i j at (omega (arith, at, high, count))
+        (omega (arith, so_far.count, high, small))
+        ∙ ap (λ (xs : List ℕ). slice_index xs j) is
+        ∙ get_or-take 4 (drop start bytes) j 0 (omega (arith, at, high))
+        ∙ get_or-drop start bytes j 0
+        ∙ ap (λ (k : ℕ). slice_index bytes k) place
+
+-- a block of it, and the halfword behind that
+pub read-block : (page other bytes : List ℕ) (f block number : ℕ) → other ≡ page_of bytes f
+    → length other ≡ 4096 → (64 * block + 65 ≤ number) ⊎ (1024 ≤ number)
+    → IsReadUpTo page bytes f (64 * block) number
+    → AreSameIn (256 * block) (256 * block + 258) page other
+read-block page other bytes f block number is count reach read i low high =
+    by_place (cases_lt i 4096)
+  where
+    by_reach : (64 * block + 65 ≤ number) ⊎ (1024 ≤ number) → i < 4096 → i < 4 * number
+    by_reach (inl h) within = omega (arith, h, high)
+    by_reach (inr h) within = omega (arith, h, within)
+
+    by_place : (i < 4096) ⊎ (4096 ≤ i) → slice_index page i ≡ slice_index other i
+    by_place (inl h) =
+        read.bytes i (omega (arith, low)) (by_reach reach h)
+        ∙ sym (ap (λ (xs : List ℕ). slice_index xs i) is
+        ∙ get_or-take 4096 (drop (4096 * f) bytes) i 0 h
+        ∙ get_or-drop (4096 * f) bytes i 0)
+    by_place (inr h) = get_or_past page i 0 (omega (arith, read.count, h))
+        ∙ sym (get_or_past other i 0 (omega (arith, count, h)))
 
 -- ---- numbers
 

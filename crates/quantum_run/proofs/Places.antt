@@ -145,15 +145,6 @@ stores-again t owners entries Claim address frame w h =
     let store : frame_for t owners entries Store address ≡ Ok frame = search rules in
     found-again t owners entries Store address frame store
 
--- a load finds what a store or claim finds
-pub loads-found : (t : ℕ) (owners : List Owner) (entries : List (ℕ × Entry)) (access : Access)
-    (address frame : ℕ) → IsWriting access → frame_for t owners entries access address ≡ Ok frame
-    → frame_for t owners entries Load address ≡ Ok frame
-loads-found t owners entries Fetch address frame w h = absurd w
-loads-found t owners entries Load address frame w h = absurd w
-loads-found t owners entries Store address frame w h = search rules
-loads-found t owners entries Claim address frame w h = search rules
-
 -- where a slot has the start of an aligned address's page, the access finds its frame
 pub aligned-found : (t : ℕ) (owners : List Owner) (entries : List (ℕ × Entry)) (access : Access)
     (start frame address : ℕ) (size : Size) → IsFrameOf t owners entries access start frame

@@ -1,12 +1,12 @@
 -- A thread's part in slices: what a pack says as it begins, and where its slices lead.
-use Rattle.std.proofs.Common.{ℕ, ◌+◌, ◌≡◌, refl, sym, ap, ◌∙◌, subst, slice_get, Some, None, List}
-use Rattle.std.proofs.Common.{Option, Bool, true, false, is_some}
+use Rattle.std.proofs.Common.{ℕ, ◌+◌, ◌≡◌, refl, sym, ap, ◌∙◌, subst, slice_get, Some, List}
+use Rattle.std.proofs.Common.{true, false, is_some}
 use Rattle.dos_world.specs.Numbered.{numbered}
 use Rattle.dos_world.specs.World.{World, released, look}
 use Rattle.dos_world.specs.declared.Owner.TheVariants.{Of}
 use Rattle.flat_machine.specs.Alone.{budget_of, emptied, steps}
 use Rattle.written_words.specs.declared.Written.{Written}
-use Rattle.quantum_run.specs.Shows.{Pack, View, Shows, Sees, CanRun, CanRunOwning, CanRunWriting}
+use Rattle.quantum_run.specs.Shows.{Pack, View, Shows, CanRun, CanRunOwning, CanRunWriting}
 use Rattle.quantum_run.specs.Shows.{Finished, FinishedOwning, LeadsTo, RanFor, RanForOwning, RanOut}
 use Rattle.quantum_run.specs.Shows.{RanOutOwning}
 use Rattle.quantum_run.specs.Shows.{begun_pack, frames_of, has_words}

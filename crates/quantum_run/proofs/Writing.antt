@@ -4,7 +4,6 @@ use Rattle.std.proofs.Common.{inr, ◌∙◌, sym, ap, subst, refl, true, false,
 use Rattle.std.proofs.Common.{length, ◌++◌, Option, Some, None, option_map, Result, Ok, Err, arith}
 use Rattle.std.specs.Prelude.{All, IsSome, MatchOption, slice_index_or}
 use Rattle.std.proofs.lemmas.List.Elements.{All-cons, All-head, All-nil, All-tail}
-use Rattle.dos_world.specs.Numbered.{numbered}
 use Rattle.dos_world.specs.World.{World, Holdings, Registers, is_free, look}
 use Rattle.dos_world.specs.declared.Entry.{Entry}
 use Rattle.dos_world.specs.declared.Owner.{Owner}
@@ -18,9 +17,9 @@ use Rattle.flat_machine.specs.Over.{one_in}
 use Rattle.rv_exec.specs.Runs.{GoesTo}
 use Rattle.written_words.specs.declared.Written.{Written}
 use Rattle.quantum_run.specs.Buffering.{HasWritten, RanOver, SeesFrames}
-use Rattle.quantum_run.specs.Packs.{space_held, view_of}
+use Rattle.quantum_run.specs.Packs.{view_of}
 use Rattle.quantum_run.specs.Shows.{Pack, View, CanRunWriting, LeadsTo, RanFor, RanForWriting}
-use Rattle.quantum_run.specs.Shows.{RanOut, RanOutWriting, Sees, pack_left, thread_space}
+use Rattle.quantum_run.specs.Shows.{RanOut, RanOutWriting, Sees, pack_left}
 use Rattle.quantum_run.specs.Shows.{has_words, with_part_of}
 use Rattle.quantum_run.specs.ThreadRuns.{AreMapped}
 use Rattle.quantum_run.proofs.Buffers.{part-goes, part-stops}

@@ -1,8 +1,10 @@
 -- Which pages of code are known, while a thread runs: those that a fetch has found, and of them the
 -- blocks of 256 bytes that have been compared, as page_store says it. This project's own rules.
 use Rattle.std.specs.Prelude.{ℕ, ◌≡◌, ◌⊎◌, ◌<◌, ◌%◌, Bool, true, List}
-use Rattle.std.specs.Prelude.{All, Option, false, slice_index_or}
-use Rattle.code_pages.specs.Lines.{IsStartIn, Known}
+use Rattle.std.specs.Prelude.{All, Option, Some, false, length, slice_get, slice_index_or}
+use Rattle.std.specs.Prelude.{slice_set}
+use Rattle.code_pages.specs.Lines.{IsStartIn, Known, bytes_of_pages, page_bytes_at, with_block}
+use Rattle.page_store.specs.Store.{whole}
 pub use Rattle.page_store.specs.Compared.{AreFewer, AreRight, AreSameAround, IsCompared, IsNoCode}
 pub use Rattle.page_store.specs.Compared.{IsRightAt, IsUncompared}
 pub use Rattle.page_store.specs.Compared.{block_place, code_place, empty_slot, slot_of}
@@ -31,6 +33,15 @@ pub record IsLineFor (shown : List Slot) (compared : List Bool) (known : Known) 
     : Type 0 where
   pub compared_is : IsCompared shown compared address
   pub start : IsStartIn known (code_place address) (address % 4096) at
+
+-- Of a frame's page this block of 256 bytes, and the halfword behind it, are known at a place.
+pub record IsChecked (pages : List (Option (List ℕ))) (frame : ℕ) (old : Known) (place block : ℕ)
+    (new : Known) : Type 0 where
+  pub page : List ℕ
+  pub there : slice_get pages frame ≡ Some (Some page)
+  pub inside : place < length old.pages
+  pub known : bytes_of_pages new ≡ slice_set (bytes_of_pages old) place
+      (Some (with_block (page_bytes_at old place) block (whole page)))
 
 -- What a fetch has found in a part is among what was found, in the same slot.
 abbrev pub AreAmong : (slots shown : List Slot) → Type 0

@@ -1,14 +1,16 @@
 // The frames as a phase began, and the words that a thread has written over them.
 ghost use Rattle.std.specs.Prelude.{◌≡◌, ◌+◌, ◌*◌, ◌%◌, ◌^◌, ◌<◌, ◌≤◌, ℕ, List, Some, None, true};
-ghost use Rattle.std.specs.Prelude.{false, if◌then◌else◌, take, drop};
+ghost use Rattle.std.specs.Prelude.{false, if◌then◌else◌, take, drop, IfSome, slice_get};
 ghost use Rattle.dos_world.specs.Reach.{bytes_of, width, written};
 ghost use Rattle.dos_world.specs.declared.Size.TheVariants.{Word};
-ghost use Rattle.page_store.specs.Store.{AreHome, joined, number_at};
+ghost use Rattle.page_store.specs.Store.{AreHome, joined, number_at, whole};
+ghost use Rattle.code_pages.specs.Lines.{AreSameIn};
 ghost use Rattle.written_words.specs.Words.{with_stored, words_put};
 ghost use Rattle.quantum_run.specs.Buffering.{pages_read};
 ghost use Rattle.quantum_run.specs.Pages.{IsPageHere};
 
 use crate::pages::Pages;
+use code_pages::CodePages;
 use dos_world::{Owner, Size};
 use page_store::{Frames, Page};
 use written_words::WrittenWords;
@@ -48,6 +50,16 @@ fn window(frames: &Frames, frame: u32, offset: u32) -> [u8; 4]
     let bytes = frames.lend(frame).bytes();
     let at = offset as usize;
     [bytes[at], bytes[at + 1], bytes[at + 2], bytes[at + 3]]
+}
+
+// the word of this number in a page is this one from now on
+#[inline(always)]
+fn put_word(page: &mut [u8; 4096], number: u32, word: [u8; 4])
+    requires { number < 1024 }
+    ensures { page.new ≡ written page.old (4 * number) word }
+{
+    let at = (4 * number) as usize;
+    page[at..at + 4].copy_from_slice(&word);
 }
 
 // the same as the words' own, of a byte or a half or any; out of the loop, as the next two are,
@@ -178,6 +190,39 @@ impl<'a> Buffered<'a> {
         }
     }
 
+    // the frame's page, unless the thread may have written a word of it
+    #[inline(always)]
+    fn unwritten(&self, frame: u32) -> Option<&Page>
+        requires { IsPageHere (pages_read self.now.frames.now.pages self.now.words) frame }
+        ensures { IfSome result
+            (λ page. slice_get (pages_read self.now.frames.now.pages self.now.words) frame
+            ≡ Some (Some page.now)) }
+    {
+        if self.words.may_have(frame) {
+            return None;
+        }
+        Some(self.frames.lend(frame))
+    }
+
+    // a page of which a block, and the word behind it, are the frame's as the thread reads it
+    #[inline(never)]
+    fn block_read(&self, frame: u32, block: usize) -> [u8; 4096]
+        requires home { IsPageHere (pages_read self.now.frames.now.pages self.now.words) frame }
+        requires block { block < 16 }
+        ensures { (page : List ℕ)
+            → slice_get (pages_read self.now.frames.now.pages self.now.words) frame
+            ≡ Some (Some page)
+            → AreSameIn (256 * block) (256 * block + 258) result (whole page) }
+    {
+        let mut bytes = [0; 4096];
+        let first = 64 * block as u32;
+        for number in first..(first + 65).min(1024) {
+            let old = window(self.frames, frame, 4 * number);
+            put_word(&mut bytes, number, self.words.over(frame, 4 * number, old));
+        }
+        bytes
+    }
+
     // the number at an aligned offset of a frame of which the thread may have written a word
     #[inline(always)]
     fn read_written(&self, frame: u32, offset: u32, size: Size) -> u32
@@ -240,19 +285,18 @@ impl<'a> Pages for Buffered<'a> {
 
     #[inline]
     fn read(&self, frame: u32, offset: u32, size: Size) -> u32 {
-        match self.page(frame) {
+        match self.unwritten(frame) {
             Some(page) => page.read(offset, size),
             None => self.read_written(frame, offset, size),
         }
     }
 
-    // in one piece where the thread has written no word of it
-    #[inline(always)]
-    fn page(&self, frame: u32) -> Option<&Page> {
-        if self.words.may_have(frame) {
-            return None;
+    #[inline]
+    fn check(&self, frame: u32, code: &mut CodePages, place: usize, block: usize) -> bool {
+        match self.unwritten(frame) {
+            Some(page) => code.check(place, block, page.bytes()),
+            None => code.check(place, block, &self.block_read(frame, block)),
         }
-        Some(self.frames.lend(frame))
     }
 
     // into the thread's words

@@ -1,6 +1,5 @@
 // Instructions of a page of code, from landing to landing.
-ghost use Rattle.std.specs.Prelude.{◌≡◌, ◌+◌, ◌-◌, ◌<◌, ◌≤◌, ◌/◌, ◌%◌, ◌^◌, ◌⊎◌, ◌==◌, ℕ};
-ghost use Rattle.std.specs.Prelude.{List, true};
+ghost use Rattle.std.specs.Prelude.{◌≡◌, ◌+◌, ◌-◌, ◌<◌, ◌≤◌, ◌/◌, ◌%◌, ◌^◌, ◌⊎◌, ◌==◌, true};
 ghost use Rattle.std.specs.List.{list_any};
 ghost use Rattle.std.specs.Borrow.{GName};
 ghost use Rattle.dos_world.specs.World.{with_pc};
@@ -9,7 +8,7 @@ ghost use Rattle.quantum_run.specs.Finding.{page_start};
 ghost use Rattle.quantum_run.specs.Flying.{IsLineOf};
 ghost use Rattle.quantum_run.specs.Knowing.{code_place, slot_of};
 ghost use Rattle.quantum_run.specs.Answering.{Still, run_answers};
-ghost use Rattle.quantum_run.specs.ThreadRuns.{AreElsewhere, AreOutside, Reaches, ReachesIn};
+ghost use Rattle.quantum_run.specs.ThreadRuns.{AreElsewhere, Reaches, ReachesIn};
 
 use crate::extent::{Between, Extent, Whole};
 use crate::lines::{follow, line_in, part_of_run};

@@ -6,6 +6,7 @@ ghost use Rattle.page_store.specs.Store.{Store, whole};
 ghost use Rattle.quantum_run.specs.Pages.{IsPageHere, Writes, overlay};
 
 use crate::pages::Pages;
+use code_pages::CodePages;
 use dos_world::{Owner, Size};
 use page_store::{Frames, Page};
 
@@ -115,8 +116,8 @@ impl<'a> Pages for Lent<'a> {
     }
 
     #[inline(always)]
-    fn page(&self, frame: u32) -> Option<&Page> {
-        Some(self.page_of(frame))
+    fn check(&self, frame: u32, code: &mut CodePages, place: usize, block: usize) -> bool {
+        code.check(place, block, self.page_of(frame).bytes())
     }
 
     #[inline(always)]

@@ -17,5 +17,5 @@ mod slowly;
 mod thread_memory;
 mod through;
 
-pub use pack::{Pack, Shared, View, run_alone, run_out, run_pack, run_slice};
+pub use pack::{Pack, Shared, View, run_out, run_pack, run_pack_through, run_slice};
 pub use run::{run_until_address, run_until_stop};

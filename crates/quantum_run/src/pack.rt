@@ -1,5 +1,5 @@
 // A thread with the pages that are its own, apart from the frames.
-ghost use Rattle.std.specs.Prelude.{◌≡◌, ◌<◌, ◌≤◌, ◌+◌, ◌++◌, ◌∷◌, [], length, map, replicate};
+ghost use Rattle.std.specs.Prelude.{◌≡◌, ◌<◌, ◌≤◌, ◌+◌, [], length};
 ghost use Rattle.std.specs.Prelude.{true, false, Some, None, IfOk, MatchOption};
 ghost use Rattle.page_store.specs.Store.{AreHome, joined, whole};
 ghost use Rattle.written_words.specs.Words.{words_put};
@@ -337,7 +337,7 @@ fn run_words(pack: &mut Pack, view: &View<'_>, most: u32) -> bool
 /// Runs the pack's thread as `run_pack` does where it has words, none yet, and is the only one to
 /// run: over the frames in place, into which each word is put as it is written. So the frames are
 /// left as they were with all the pack's words put in; owners, uses and marks stay.
-pub fn run_alone(pack: &mut Pack, frames: &mut Frames, table: &Table)
+pub fn run_pack_through(pack: &mut Pack, frames: &mut Frames, table: &Table)
     requires words { pack.old.words ≡ Some [] }
     requires can { CanRun pack.old (view_of frames.old table.now) }
     ensures finished { Finished pack.old (view_of frames.old table.now) pack.new }

@@ -1,17 +1,20 @@
 // The pages that one thread reaches, by frame.
 ghost use Rattle.std.specs.Prelude.{◌≡◌, ◌+◌, ◌*◌, ◌%◌, ◌^◌, ◌<◌, ◌≤◌, ℕ, Bool, true, false, List};
-ghost use Rattle.std.specs.Prelude.{Option, Some, None, IfSome, is_some, length, map, slice_get};
+ghost use Rattle.std.specs.Prelude.{Option, Some, None, is_some, length, map};
 ghost use Rattle.std.specs.Prelude.{slice_index_or};
 ghost use Rattle.std.specs.Borrow.{GName};
 ghost use Rattle.dos_world.specs.Reach.{bytes_of, width};
 ghost use Rattle.dos_world.specs.declared.Owner.{Owner as owner_type};
 ghost use Rattle.dos_world.specs.declared.Owner.TheVariants.{Free};
 ghost use Rattle.page_store.specs.Store.{joined, number_at};
+ghost use Rattle.code_pages.specs.Lines.{AreKnownPages};
 ghost use Rattle.quantum_run.specs.Answering.{Places};
+ghost use Rattle.quantum_run.specs.Knowing.{IsChecked};
 ghost use Rattle.quantum_run.specs.Pages.{IsPageHere, Writes};
 
+use code_pages::CodePages;
 use dos_world::{Owner, Size};
-use page_store::{Frames, Page};
+use page_store::Frames;
 
 /// The pages that one thread reaches, and what becomes of its stores.
 pub trait Pages: Drop {
@@ -54,10 +57,16 @@ pub trait Pages: Drop {
         ensures value { result ≡ number_at (joined (pages self.now)) (4096 * frame + offset) size }
         ensures range { result < 256 ^ width size };
 
-    /// The frame's page; None where it isn't in one piece.
-    fn page(&self, frame: u32) -> Option<&Page>
-        requires { IsPageHere (pages self.now) frame }
-        ensures { IfSome result (λ page. slice_get (pages self.now) frame ≡ Some (Some page.now)) };
+    /// A block of 256 bytes of the frame's page, and the halfword behind it, are known at a place
+    /// of code from now on. False, with nothing changed, where there is no such place, or no
+    /// memory.
+    fn check(&self, frame: u32, code: &mut CodePages, place: usize, block: usize) -> bool
+        requires home { IsPageHere (pages self.now) frame }
+        requires block { block < 16 }
+        ensures checked { result ≡ true
+            → IsChecked (pages self.now) frame code.old place block code.new }
+        ensures same { result ≡ false → code.new ≡ code.old }
+        ensures known { AreKnownPages code.old };
 
     /// Writes the low bytes of a number at an aligned offset of a frame's page; false where there
     /// is no room for it, and nothing is changed then.
@@ -157,8 +166,8 @@ impl<'a> Pages for InPlace<'a> {
     }
 
     #[inline(always)]
-    fn page(&self, frame: u32) -> Option<&Page> {
-        Some(self.frames.lend(frame))
+    fn check(&self, frame: u32, code: &mut CodePages, place: usize, block: usize) -> bool {
+        code.check(place, block, self.frames.lend(frame).bytes())
     }
 
     #[inline(always)]

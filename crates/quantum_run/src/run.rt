@@ -2,7 +2,7 @@
 ghost use Rattle.std.specs.Prelude.{◌≡◌, ◌<◌, ◌≤◌, ◌+◌, ◌-◌, ◌⊎◌, ℕ, List, Some, Err, MatchOption};
 ghost use Rattle.std.specs.Prelude.{Option, [], length, map, is_some, true};
 ghost use Rattle.std.specs.Borrow.{GName};
-ghost use Rattle.dos_world.specs.World.{World, with_pc};
+ghost use Rattle.dos_world.specs.World.{World};
 ghost use Rattle.page_store.specs.Store.{AreHome, joined};
 ghost use Rattle.rv_exec.specs.Runs.{GoesTo};
 ghost use Rattle.flat_machine.specs.Over.{one_in};
@@ -12,7 +12,7 @@ ghost use Rattle.written_words.specs.declared.Written.{Written};
 ghost use Rattle.written_words.specs.Words.{words_put};
 ghost use Rattle.quantum_run.specs.Buffering.{HasWritten, RanOver};
 ghost use Rattle.quantum_run.specs.Pages.{AreOwn, AreReached, AreWithin, is_here, overlay};
-ghost use Rattle.quantum_run.specs.ThreadRuns.{AreElsewhere, AreMapped, Goes, IsRunOf, Reaches};
+ghost use Rattle.quantum_run.specs.ThreadRuns.{AreElsewhere, AreMapped, Goes, IsRunOf};
 ghost use Rattle.quantum_run.specs.ThreadRuns.{StartsElsewhere, is_stop_at, run_to};
 ghost use Rattle.flat_machine.specs.Laws.{after_steps};
 ghost use Rattle.quantum_run.specs.ThreadRuns.{store_of};

@@ -1,5 +1,5 @@
 // One instruction, with pc beside the registers.
-ghost use Rattle.std.specs.Prelude.{◌≡◌, ◌<◌, ◌⊎◌, ◌%◌, ℕ, List, true, unwrap_or};
+ghost use Rattle.std.specs.Prelude.{◌≡◌, ◌<◌, ◌⊎◌, ◌%◌, true, unwrap_or};
 ghost use Rattle.std.specs.Borrow.{GName};
 ghost use Rattle.dos_world.specs.World.{Registers as registers_of_thread, with_pc};
 ghost use Rattle.dos_world.specs.declared.Reason.{Reason as reason};

@@ -1,5 +1,5 @@
 // The memory of one thread over any pages.
-ghost use Rattle.std.specs.Prelude.{◌≡◌, ◌≢◌, ◌⊎◌, ◌+◌, ◌/◌, ◌%◌, ◌^◌, ◌<◌, ◌≤◌, ℕ, List, Option};
+ghost use Rattle.std.specs.Prelude.{◌≡◌, ◌⊎◌, ◌+◌, ◌/◌, ◌%◌, ◌^◌, ◌<◌, ℕ, List, Option};
 ghost use Rattle.std.specs.Prelude.{Some, None, Ok, Err, IfSome, false, slice_index_or, true};
 ghost use Rattle.std.specs.Borrow.{GName};
 ghost use Rattle.std.specs.Option.{ok_or, option_map};
@@ -333,8 +333,7 @@ impl<'a, P: Pages> Running<'a, P> {
     }
 
     /// Whether the block of this address has been compared from now on, whose page a fetch has
-    /// found; false where there is no memory for what is known of it, or the page isn't in one
-    /// piece.
+    /// found; false where there is no memory for what is known of it.
     #[inline]
     fn compare(&mut self, code: &mut CodePages, address: u32) -> bool
         requires found { (slot_of self.old.shown address).start ≡ page_start address }
@@ -356,10 +355,8 @@ impl<'a, P: Pages> Running<'a, P> {
         if self.compared.is_compared(16 * slot + block) {
             return true;
         }
-        let Some(page) = self.pages.page(self.shown[slot].frame) else {
-            return false;
-        };
-        if !code.check(code_place(address), block, page.bytes()) {
+        let frame = self.shown[slot].frame;
+        if !self.pages.check(frame, code, code_place(address), block) {
             return false;
         }
         self.compared.mark(16 * slot + block);

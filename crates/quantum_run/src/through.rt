@@ -2,8 +2,8 @@
 
 use crate::buffered::store;
 use crate::pages::{InPlace, Pages};
+use code_pages::CodePages;
 use dos_world::{Owner, Size};
-use page_store::Page;
 use written_words::WrittenWords;
 
 /// The frames, in place, and the words that thread `tid` has written, each of which is put in
@@ -70,8 +70,8 @@ impl<'a> Pages for Through<'a> {
     }
 
     #[inline(always)]
-    fn page(&self, frame: u32) -> Option<&Page> {
-        self.place.page(frame)
+    fn check(&self, frame: u32, code: &mut CodePages, place: usize, block: usize) -> bool {
+        self.place.check(frame, code, place, block)
     }
 
     // into the thread's words and memory

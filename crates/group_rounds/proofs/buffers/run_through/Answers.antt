@@ -13,8 +13,8 @@ use Rattle.group_rounds.proofs.buffers.run_through.Goals as goal
 pub set_run-requires : goal.set_run-requires
 set_run-requires c =
     let s = c.args.state.now in
-    let p = c.run_alone.new.pack in
-    let e = c.run_alone.ensures in
+    let p = c.run_pack_through.new.pack in
+    let e = c.run_pack_through.ensures in
     let ran : HasRun (view_of s.frames s.table) c.args.pack.now p = record {
       finished = e.finished;
       thread = e.thread;
@@ -28,8 +28,8 @@ set_run-requires c =
 pub returns-clause-sound : goal.returns-clause-sound
 returns-clause-sound c =
     let s = c.args.state.now in
-    let p : Pack = c.run_alone.new.pack in
-    let e = c.run_alone.ensures in
+    let p : Pack = c.run_pack_through.new.pack in
+    let e = c.run_pack_through.ensures in
     let count = c.count-count.ensures in
     let ran : HasRun (view_of s.frames s.table) c.args.pack.now p = record {
       finished = e.finished;
@@ -42,7 +42,7 @@ returns-clause-sound c =
     let same : part_in p ≡ part c.regs.result.now c.budget.result (words_held p) =
     ap (λ r. part r p.budget (words_held p)) (sym c.regs.ensures)
     ∙ ap (λ b. part c.regs.result.now b (words_held p)) (sym c.budget.ensures) in
-    part-sound s c.set_run.new.self c.run_alone.new.frames c.tid.result c.budget.result
+    part-sound s c.set_run.new.self c.run_pack_through.new.frames c.tid.result c.budget.result
     c.regs.result.now (words_held p) c.set_run.ensures
     (record {
       home = record { home = e.home; owners = sym count.owners ∙ count.pages };

@@ -1,4 +1,3 @@
-use Rattle.std.proofs.Common.{sym, ap}
 use Rattle.quantum_run.proofs.Paged.{window-is}
 use Rattle.quantum_run.proofs.buffered.window.Goals as goal
 

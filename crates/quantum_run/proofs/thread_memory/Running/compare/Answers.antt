@@ -2,8 +2,8 @@ use Rattle.std.proofs.Common.{◌+◌, ◌*◌, ◌/◌, ◌%◌, ◌<◌, ◌�
 use Rattle.std.proofs.Common.{Bool, List, slice_get, subst, sym}
 use Rattle.code_pages.specs.Lines.{bytes_of_pages}
 use Rattle.page_store.specs.declared.compared.Slot.{Slot}
-use Rattle.quantum_run.specs.Knowing.{AreRight, block_place}
-use Rattle.quantum_run.proofs.Comparing.{right-compared, slot-here}
+use Rattle.quantum_run.specs.Knowing.{AreRight, IsChecked, block_place}
+use Rattle.quantum_run.proofs.Comparing.{right-checked, slot-here}
 use Rattle.quantum_run.proofs.FoundAgain.{shown-kept}
 use Rattle.quantum_run.proofs.thread_memory.Running.compare.Goals as goal
 
@@ -40,18 +40,17 @@ returns-clause-right g c = λ are.
     let place : 16 * slot + address % 4096 / 256 ≡ block_place address = omega (arith, is) in
     let same = shown-kept m.compared.now.slots m.shown address m.kept c.ranges.address.fits
     c.requires.found in
-    let new = bytes_of_pages c.check.new.self in
-    subst (λ (s : List Slot). AreRight s c.mark.new.self.blocks pages new)
+    let old = c.args.code.now in
+    let new = c.check.new.code in
+    let block = address % 4096 / 256 in
+    subst (λ (s : List Slot). AreRight s c.mark.new.self.blocks pages (bytes_of_pages new))
     (sym c.mark.ensures.slots)
-    (subst (λ (b : List Bool). AreRight m.compared.now.slots b pages new)
+    (subst (λ (b : List Bool). AreRight m.compared.now.slots b pages (bytes_of_pages new))
     (sym c.mark.ensures.blocks)
-    (right-compared m.compared.now.slots m.compared.now.blocks pages new c.args.code.now
-    address (address % 4096 / 256) c.code_place.result (16 * slot + address % 4096 / 256)
-    c.in-Some.page.now c.bytes.result.now c.check.result c.if-not-check.false
-    c.ranges.address.fits (ap (λ (s : Slot). s.start) (sym same) ∙ c.requires.found)
-    (ap (λ (s : Slot). slice_get pages s.frame) (sym same)
-    ∙ ap (λ (s : Slot). slice_get pages s.frame)
-    (sym (slot-here m.shown address slot none is small))
-    ∙ c.in-Some.ensures)
-    refl c.code_place.ensures.place place c.bytes.ensures.value c.check.ensures.there
-    c.check.ensures.known c.check.ensures.pages are))
+    (right-checked m.compared.now.slots m.compared.now.blocks pages old new address block
+    c.code_place.result (16 * slot + block) c.ranges.address.fits
+    (ap (λ (s : Slot). s.start) (sym same) ∙ c.requires.found)
+    refl c.code_place.ensures.place place c.check.ensures.known
+    (subst (λ (s : Slot). IsChecked pages s.frame old c.code_place.result block new)
+    (slot-here m.shown address slot none is small ∙ same)
+    (c.check.ensures.checked c.if-not-check.false)) are))

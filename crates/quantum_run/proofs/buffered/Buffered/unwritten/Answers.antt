@@ -1,7 +1,7 @@
 use Rattle.page_store.specs.Store.{joined}
 use Rattle.page_store.proofs.Joined.{home-at}
 use Rattle.quantum_run.proofs.Paged.{read-same, read-within}
-use Rattle.quantum_run.proofs.buffered.BufferedPages.page.Goals as goal
+use Rattle.quantum_run.proofs.buffered.Buffered.unwritten.Goals as goal
 
 pub lend-requires : goal.lend-requires
 lend-requires c =

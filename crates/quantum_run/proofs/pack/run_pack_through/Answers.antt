@@ -5,7 +5,7 @@ use Rattle.quantum_run.specs.Packs.{paired, view_of}
 use Rattle.quantum_run.specs.Shows.{Pack, begun_pack}
 use Rattle.quantum_run.proofs.Slices.{begun-can, begun-runs}
 use Rattle.quantum_run.proofs.Writing.{ready-home, ready-mapped, written-out}
-use Rattle.quantum_run.proofs.pack.run_alone.Goals as goal
+use Rattle.quantum_run.proofs.pack.run_pack_through.Goals as goal
 
 pub run_through-stop-requires-clause-home : goal.run_through-stop-requires-clause-home
 run_through-stop-requires-clause-home c =
