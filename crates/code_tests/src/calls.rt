@@ -14,6 +14,12 @@ const OWNERSHIP: &str = "ownership";
 
 const BUFFERED: &str = "buffered";
 
+// The guest's file.
+const ONE: &[&str] = &["a"];
+
+// The same for two processes.
+const TWO: &[&str] = &["a", "a"];
+
 // What a call left, and by how much the tally grew.
 #[derive(Drop)]
 struct Left {
@@ -23,9 +29,9 @@ struct Left {
     work: u64,
 }
 
-fn words_of(rt: &impl Abort, alloc: Global, texts: &[&str]) -> Vec<String> {
+fn words_of(rt: &impl Abort, alloc: Global, texts: &[&str], names: &[&str]) -> Vec<String> {
     let mut words = Vec::new(alloc);
-    for text in texts {
+    for text in texts.iter().chain(names) {
         let word = String::from_str(alloc, text).expect(rt, "memory");
         words.push(word).expect(rt, "memory");
     }
@@ -46,8 +52,9 @@ fn call<R: Threads + Sync + Abort>(
     files: &mut MemoryFiles,
     guest: &Guest,
     texts: &[&str],
+    names: &[&str],
 ) -> Left {
-    let words = words_of(rt, alloc, texts);
+    let words = words_of(rt, alloc, texts, names);
     let mut host = host_of(rt, alloc, guest);
     let mut out = sink(rt, alloc);
     let mut err = sink(rt, alloc);
@@ -82,6 +89,7 @@ fn run<R: Threads + Sync + Abort>(
     scheme: &str,
     quantum: &str,
     workers: &str,
+    names: &[&str],
 ) -> Left {
     let words = [
         "run",
@@ -95,9 +103,8 @@ fn run<R: Threads + Sync + Abort>(
         quantum,
         "--workers",
         workers,
-        "a",
     ];
-    call(rt, alloc, files, guest, &words)
+    call(rt, alloc, files, guest, &words, names)
 }
 
 fn replay<R: Threads + Sync + Abort>(
@@ -106,21 +113,42 @@ fn replay<R: Threads + Sync + Abort>(
     files: &mut MemoryFiles,
     guest: &Guest,
     scheme: &str,
+    names: &[&str],
 ) -> Left {
-    let words = ["replay", "--log", "log", "--scheme", scheme, "a"];
-    call(rt, alloc, files, guest, &words)
+    let words = ["replay", "--log", "log", "--scheme", scheme];
+    call(rt, alloc, files, guest, &words, names)
+}
+
+// What stands behind these bytes; nothing where they don't stand there.
+fn behind<'a>(bytes: &'a [u8], front: &[u8]) -> &'a [u8] {
+    bytes.strip_prefix(front).unwrap_or(b"")
 }
 
 // Whether the report has these lines, and then that the group is done.
 fn is_report(err: &[u8], lines: &str) -> bool {
-    let rest = err.strip_prefix(lines.as_bytes()).unwrap_or(b"");
+    let rest = behind(err, lines.as_bytes());
     rest.starts_with(b"rounds ") && rest.ends_with(b" done\n")
+}
+
+// The same where two processes have the line of process 1.
+fn is_report_of_two(err: &[u8], line: &str) -> bool {
+    let rest = behind(err, line.as_bytes());
+    let status = line.strip_prefix("process 1").unwrap_or("");
+    is_report(behind(rest, b"process 2"), status)
 }
 
 fn check_left(rt: &impl Abort, left: &Left, guest: &Guest, case: (&str, &str)) {
     let reported = is_report(left.err.bytes(), guest.report);
     same_at(rt, (left.status, reported), (0, true), case);
     same_at(rt, left.out.bytes(), guest.out, case);
+}
+
+// Each of two processes has left what one does.
+fn check_left_by_two(rt: &impl Abort, left: &Left, guest: &Guest, case: (&str, &str)) {
+    let reported = is_report_of_two(left.err.bytes(), guest.report);
+    same_at(rt, (left.status, reported), (0, true), case);
+    let rest = behind(left.out.bytes(), guest.out);
+    same_at(rt, rest, guest.out, case);
 }
 
 fn check_same(rt: &impl Abort, left: &Left, wanted: &Left, case: (&str, &str)) {
@@ -130,25 +158,24 @@ fn check_same(rt: &impl Abort, left: &Left, wanted: &Left, case: (&str, &str)) {
     same_at(rt, left.err.bytes(), wanted.err.bytes(), case);
 }
 
-// With one worker it leaves what is wanted, and 32 workers and a replay leave the same.
-fn check_at<R: Threads + Sync + Abort>(
+// What one worker leaves, and 32 workers and a replay leave the same.
+fn left_at<R: Threads + Sync + Abort>(
     rt: &R,
     alloc: Global,
     files: &mut MemoryFiles,
     guest: &Guest,
-    scheme: &str,
-    quantum: &str,
-) {
-    let case = (scheme, quantum);
-    let one = run(rt, alloc, files, guest, scheme, quantum, "1");
-    check_left(rt, &one, guest, case);
-    let many = run(rt, alloc, files, guest, scheme, quantum, "32");
+    case: (&str, &str),
+    names: &[&str],
+) -> Left {
+    let (scheme, quantum) = case;
+    let one = run(rt, alloc, files, guest, scheme, quantum, "1", names);
+    let many = run(rt, alloc, files, guest, scheme, quantum, "32", names);
     check_same(rt, &many, &one, case);
-    let again = replay(rt, alloc, files, guest, scheme);
+    let again = replay(rt, alloc, files, guest, scheme, names);
     check_same(rt, &again, &one, case);
-    drop(one);
     drop(many);
     drop(again);
+    one
 }
 
 // The guest leaves what is wanted by a scheme at each quantum, with 1 and with 32 workers, and is
@@ -156,7 +183,22 @@ fn check_at<R: Threads + Sync + Abort>(
 fn check_by<R: Threads + Sync + Abort>(rt: &R, alloc: Global, guest: &Guest, scheme: &str) {
     let mut files = files_of(rt, alloc, guest);
     for quantum in &QUANTA {
-        check_at(rt, alloc, &mut files, guest, scheme, quantum);
+        let case = (scheme, *quantum);
+        let left = left_at(rt, alloc, &mut files, guest, case, ONE);
+        check_left(rt, &left, guest, case);
+        drop(left);
+    }
+    drop(files);
+}
+
+// Two processes of the guest, side by side by the buffered scheme, leave each what is wanted.
+fn check_two<R: Threads + Sync + Abort>(rt: &R, alloc: Global, guest: &Guest) {
+    let mut files = files_of(rt, alloc, guest);
+    for quantum in &QUANTA {
+        let case = (BUFFERED, *quantum);
+        let left = left_at(rt, alloc, &mut files, guest, case, TWO);
+        check_left_by_two(rt, &left, guest, case);
+        drop(left);
     }
     drop(files);
 }
@@ -166,9 +208,15 @@ pub fn check_guest<R: Threads + Sync + Abort>(rt: &R, alloc: Global, guest: &Gue
     check_by(rt, alloc, guest, OWNERSHIP);
 }
 
-/// The same by both schemes, which leave the same of a guest of one thread: what it has stored in
-/// this round it fetches from its own words.
+/// The same by both schemes, which leave the same of a guest of one thread.
 pub fn check_in_both<R: Threads + Sync + Abort>(rt: &R, alloc: Global, guest: &Guest) {
     check_by(rt, alloc, guest, OWNERSHIP);
     check_by(rt, alloc, guest, BUFFERED);
+}
+
+/// The same, and by two processes of a guest that doesn't ask which it is: what each has stored in
+/// this round it fetches from its own words.
+pub fn check_twice<R: Threads + Sync + Abort>(rt: &R, alloc: Global, guest: &Guest) {
+    check_in_both(rt, alloc, guest);
+    check_two(rt, alloc, guest);
 }

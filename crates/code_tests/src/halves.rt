@@ -1,6 +1,6 @@
 //! Stores over a part of an instruction, or of a word that has two, and over an instruction on two
 //! pages.
-use crate::calls::check_in_both;
+use crate::calls::check_twice;
 use crate::guests::{Guest, QUIET};
 
 /// The upper half of a wide instruction, its immediate, is stored over: 5 and 1 in turn, 18.
@@ -24,7 +24,7 @@ const AN_UPPER_HALF: Guest = Guest {
 
 #[test]
 fn an_upper_half(rt: HostRuntime) {
-    check_in_both(&rt, rt.alloc(), &AN_UPPER_HALF);
+    check_twice(&rt, rt.alloc(), &AN_UPPER_HALF);
 }
 
 /// The lower half, with the operation: a0 is doubled and counted up in turn, from 1: 2, 3, 6, 7,
@@ -52,7 +52,7 @@ const A_LOWER_HALF: Guest = Guest {
 
 #[test]
 fn a_lower_half(rt: HostRuntime) {
-    check_in_both(&rt, rt.alloc(), &A_LOWER_HALF);
+    check_twice(&rt, rt.alloc(), &A_LOWER_HALF);
 }
 
 /// The uppermost byte alone: 17 and 1 in turn, 54.
@@ -75,7 +75,7 @@ const A_BYTE: Guest = Guest {
 
 #[test]
 fn a_byte(rt: HostRuntime) {
-    check_in_both(&rt, rt.alloc(), &A_BYTE);
+    check_twice(&rt, rt.alloc(), &A_BYTE);
 }
 
 /// Of two compressed instructions in one word the second is stored over: 10 and 2 in turn, beside 1
@@ -104,7 +104,7 @@ const THE_SECOND_OF_TWO: Guest = Guest {
 
 #[test]
 fn the_second_of_two(rt: HostRuntime) {
-    check_in_both(&rt, rt.alloc(), &THE_SECOND_OF_TWO);
+    check_twice(&rt, rt.alloc(), &THE_SECOND_OF_TWO);
 }
 
 /// The first of two: 10 and 1 in turn, beside 2 in each of six turns: 45.
@@ -132,7 +132,7 @@ const THE_FIRST_OF_TWO: Guest = Guest {
 
 #[test]
 fn the_first_of_two(rt: HostRuntime) {
-    check_in_both(&rt, rt.alloc(), &THE_FIRST_OF_TWO);
+    check_twice(&rt, rt.alloc(), &THE_FIRST_OF_TWO);
 }
 
 /// A compressed store of the word that it stands in, whose other instruction adds 10 and 1 in turn:
@@ -160,7 +160,7 @@ const THE_NEXT_IN_ITS_WORD: Guest = Guest {
 
 #[test]
 fn the_next_in_its_word(rt: HostRuntime) {
-    check_in_both(&rt, rt.alloc(), &THE_NEXT_IN_ITS_WORD);
+    check_twice(&rt, rt.alloc(), &THE_NEXT_IN_ITS_WORD);
 }
 
 /// A word is two compressed instructions, which add 1 and 2, and, by another lower half, a wide
@@ -188,7 +188,7 @@ const TWO_OF_ONE: Guest = Guest {
 
 #[test]
 fn two_of_one(rt: HostRuntime) {
-    check_in_both(&rt, rt.alloc(), &TWO_OF_ONE);
+    check_twice(&rt, rt.alloc(), &TWO_OF_ONE);
 }
 
 /// The same where the whole word is stored: 10, and 1 and 2, in turn: 39.
@@ -215,7 +215,7 @@ const TWO_BY_ONE: Guest = Guest {
 
 #[test]
 fn two_by_one(rt: HostRuntime) {
-    check_in_both(&rt, rt.alloc(), &TWO_BY_ONE);
+    check_twice(&rt, rt.alloc(), &TWO_BY_ONE);
 }
 
 /// A wide instruction lies in two words of its page. A store over the second of them changes its
@@ -246,7 +246,7 @@ const OVER_TWO_WORDS: Guest = Guest {
 
 #[test]
 fn over_two_words(rt: HostRuntime) {
-    check_in_both(&rt, rt.alloc(), &OVER_TWO_WORDS);
+    check_twice(&rt, rt.alloc(), &OVER_TWO_WORDS);
 }
 
 /// The upper half of a wide instruction is one of its own as well, and both are called. A store
@@ -277,7 +277,7 @@ const FROM_THE_MIDDLE: Guest = Guest {
 
 #[test]
 fn from_the_middle(rt: HostRuntime) {
-    check_in_both(&rt, rt.alloc(), &FROM_THE_MIDDLE);
+    check_twice(&rt, rt.alloc(), &FROM_THE_MIDDLE);
 }
 
 /// An instruction over two pages. Its upper half, on the second page, is stored over by code of the
@@ -304,7 +304,7 @@ const OVER_TWO_PAGES_ABOVE: Guest = Guest {
 
 #[test]
 fn over_two_pages_above(rt: HostRuntime) {
-    check_in_both(&rt, rt.alloc(), &OVER_TWO_PAGES_ABOVE);
+    check_twice(&rt, rt.alloc(), &OVER_TWO_PAGES_ABOVE);
 }
 
 /// Its lower half, on the first page, is stored over by code of the second, behind it: from 1 a0 is
@@ -334,7 +334,7 @@ const OVER_TWO_PAGES_BELOW: Guest = Guest {
 
 #[test]
 fn over_two_pages_below(rt: HostRuntime) {
-    check_in_both(&rt, rt.alloc(), &OVER_TWO_PAGES_BELOW);
+    check_twice(&rt, rt.alloc(), &OVER_TWO_PAGES_BELOW);
 }
 
 /// Both halves of it are stored over by code of a third page, which is called: to addi a0, a0, 5 by
@@ -367,5 +367,5 @@ const OVER_TWO_PAGES_FROM_ELSEWHERE: Guest = Guest {
 
 #[test]
 fn over_two_pages_from_elsewhere(rt: HostRuntime) {
-    check_in_both(&rt, rt.alloc(), &OVER_TWO_PAGES_FROM_ELSEWHERE);
+    check_twice(&rt, rt.alloc(), &OVER_TWO_PAGES_FROM_ELSEWHERE);
 }

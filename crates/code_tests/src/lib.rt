@@ -5,9 +5,10 @@
 //! long. One guest changes no code: it writes x0, which the interpreter knows by the code.
 //!
 //! Each guest is run by the whole program at quanta from 16 to 65536, with one worker and with 32,
-//! and replayed, those of one thread by both schemes, and comes to an output and a status that tell
-//! which instructions were run. They are worked out by hand, beside each guest. Its words are those
-//! that GNU's assembler makes of the lines beside them. Nothing stands on this crate.
+//! and replayed, those of one thread by both schemes and, if they don't ask which process they are,
+//! as two processes side by side. It comes to an output and a status that tell which instructions
+//! were run. They are worked out by hand, beside each guest. Its words are those that GNU's
+//! assembler makes of the lines beside them. Nothing stands on this crate.
 #![tactic(auto)]
 
 #[cfg(test)]

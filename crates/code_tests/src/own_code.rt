@@ -1,6 +1,6 @@
 //! A thread that stores over its own code: over its next instruction, further down, behind, on
 //! other pages and back, and over and over.
-use crate::calls::check_in_both;
+use crate::calls::{check_in_both, check_twice};
 use crate::guests::{Guest, QUIET};
 
 /// Each of six turns stores over the instruction behind the store, which adds 10 and 1 in turn: 33.
@@ -27,7 +27,7 @@ const OVER_THE_NEXT: Guest = Guest {
 
 #[test]
 fn over_the_next(rt: HostRuntime) {
-    check_in_both(&rt, rt.alloc(), &OVER_THE_NEXT);
+    check_twice(&rt, rt.alloc(), &OVER_THE_NEXT);
 }
 
 /// The same where five instructions stand between the store and the one that is stored over.
@@ -59,7 +59,7 @@ const FURTHER_DOWN: Guest = Guest {
 
 #[test]
 fn further_down(rt: HostRuntime) {
-    check_in_both(&rt, rt.alloc(), &FURTHER_DOWN);
+    check_twice(&rt, rt.alloc(), &FURTHER_DOWN);
 }
 
 /// Of a loop's eight turns the third stores over its first instruction, which adds 1 three times
@@ -85,7 +85,7 @@ const BEHIND: Guest = Guest {
 
 #[test]
 fn behind(rt: HostRuntime) {
-    check_in_both(&rt, rt.alloc(), &BEHIND);
+    check_twice(&rt, rt.alloc(), &BEHIND);
 }
 
 /// A store over itself: of the three turns the second and the third add 7: 14.
@@ -107,7 +107,7 @@ const ITSELF: Guest = Guest {
 
 #[test]
 fn itself(rt: HostRuntime) {
-    check_in_both(&rt, rt.alloc(), &ITSELF);
+    check_twice(&rt, rt.alloc(), &ITSELF);
 }
 
 /// A call of an instruction that was stored anew, and one of it as it stood before, three times
@@ -136,7 +136,7 @@ const THERE_AND_BACK: Guest = Guest {
 
 #[test]
 fn there_and_back(rt: HostRuntime) {
-    check_in_both(&rt, rt.alloc(), &THERE_AND_BACK);
+    check_twice(&rt, rt.alloc(), &THERE_AND_BACK);
 }
 
 /// A jump that goes elsewhere in its second turn: 1 and 10, and then 1 and 100: 112.
@@ -160,7 +160,7 @@ const A_JUMP: Guest = Guest {
 
 #[test]
 fn a_jump(rt: HostRuntime) {
-    check_in_both(&rt, rt.alloc(), &A_JUMP);
+    check_twice(&rt, rt.alloc(), &A_JUMP);
 }
 
 /// A call for the thread's number, which is 1, over it 5 more, and the call again: 1, 6 and 1, so
@@ -211,7 +211,7 @@ const INTO_NONE: Guest = Guest {
 
 #[test]
 fn into_none(rt: HostRuntime) {
-    check_in_both(&rt, rt.alloc(), &INTO_NONE);
+    check_twice(&rt, rt.alloc(), &INTO_NONE);
 }
 
 /// Six turns store over an instruction on the next page and call it: it adds 10 and 1 in turn, 33.
@@ -241,7 +241,7 @@ const ON_ANOTHER_PAGE: Guest = Guest {
 
 #[test]
 fn on_another_page(rt: HostRuntime) {
-    check_in_both(&rt, rt.alloc(), &ON_ANOTHER_PAGE);
+    check_twice(&rt, rt.alloc(), &ON_ANOTHER_PAGE);
 }
 
 /// Six calls of code on the next page, which stores over the instruction behind the call: 33.
@@ -271,7 +271,7 @@ const FROM_ANOTHER_PAGE: Guest = Guest {
 
 #[test]
 fn from_another_page(rt: HostRuntime) {
-    check_in_both(&rt, rt.alloc(), &FROM_ANOTHER_PAGE);
+    check_twice(&rt, rt.alloc(), &FROM_ANOTHER_PAGE);
 }
 
 /// The code of each of two pages stores over an instruction of the other, and both are run in each
@@ -304,7 +304,7 @@ const OF_TWO_PAGES: Guest = Guest {
 
 #[test]
 fn of_two_pages(rt: HostRuntime) {
-    check_in_both(&rt, rt.alloc(), &OF_TWO_PAGES);
+    check_twice(&rt, rt.alloc(), &OF_TWO_PAGES);
 }
 
 /// A straight run goes on from one page to the next, over whose first instruction it has stored:
@@ -334,7 +334,7 @@ const ON_TO_THE_NEXT_PAGE: Guest = Guest {
 
 #[test]
 fn on_to_the_next_page(rt: HostRuntime) {
-    check_in_both(&rt, rt.alloc(), &ON_TO_THE_NEXT_PAGE);
+    check_twice(&rt, rt.alloc(), &ON_TO_THE_NEXT_PAGE);
 }
 
 /// Two instructions at one offset of pages that are 64 pages apart, of which first the one and then
@@ -377,7 +377,7 @@ const FAR_APART: Guest = Guest {
 
 #[test]
 fn far_apart(rt: HostRuntime) {
-    check_in_both(&rt, rt.alloc(), &FAR_APART);
+    check_twice(&rt, rt.alloc(), &FAR_APART);
 }
 
 /// Ten atomic additions count an immediate up from 0, and each is followed by the instruction: 1 to
@@ -401,7 +401,7 @@ const BY_AN_ADDITION: Guest = Guest {
 
 #[test]
 fn by_an_addition(rt: HostRuntime) {
-    check_in_both(&rt, rt.alloc(), &BY_AN_ADDITION);
+    check_twice(&rt, rt.alloc(), &BY_AN_ADDITION);
 }
 
 /// The same by a store of what was reserved, which is tried again until it is done.
@@ -427,7 +427,7 @@ const IF_RESERVED: Guest = Guest {
 
 #[test]
 fn if_reserved(rt: HostRuntime) {
-    check_in_both(&rt, rt.alloc(), &IF_RESERVED);
+    check_twice(&rt, rt.alloc(), &IF_RESERVED);
 }
 
 /// Each of 200 turns counts an immediate of the loop up: 0 to 199 make 19900, which is 0x4dbc.
@@ -460,7 +460,7 @@ const COUNTS_UP: Guest = Guest {
 
 #[test]
 fn counts_up(rt: HostRuntime) {
-    check_in_both(&rt, rt.alloc(), &COUNTS_UP);
+    check_twice(&rt, rt.alloc(), &COUNTS_UP);
 }
 
 /// Each of 300 turns counts one up on the next page, and calls it: 1 to 300 make 45150, which is
@@ -496,7 +496,7 @@ const COUNTS_UP_ON_ANOTHER_PAGE: Guest = Guest {
 
 #[test]
 fn counts_up_on_another_page(rt: HostRuntime) {
-    check_in_both(&rt, rt.alloc(), &COUNTS_UP_ON_ANOTHER_PAGE);
+    check_twice(&rt, rt.alloc(), &COUNTS_UP_ON_ANOTHER_PAGE);
 }
 
 /// Six signals to itself, each behind a store over an instruction of the handler, which counts in

@@ -1,5 +1,5 @@
 //! A thread that writes x0, in a loop: nothing of it is seen.
-use crate::calls::check_in_both;
+use crate::calls::check_twice;
 use crate::guests::{Guest, QUIET};
 
 /// Each of six turns writes x0 in nine ways, and adds x0 and 1 to a0: 6.
@@ -29,5 +29,5 @@ const OVER_AND_OVER: Guest = Guest {
 
 #[test]
 fn over_and_over(rt: HostRuntime) {
-    check_in_both(&rt, rt.alloc(), &OVER_AND_OVER);
+    check_twice(&rt, rt.alloc(), &OVER_AND_OVER);
 }
